@@ -1,0 +1,6 @@
+// The octets between receiver, provider and user: times, records and invocations, written and read.
+pub mod fault;
+pub(crate) mod fields;
+pub mod invocation;
+pub mod record;
+pub mod time;
