@@ -4,6 +4,8 @@ use mathlib.Core.List.{List}
 use Prim.Native.Nat.{ℕ, _+_, _*_}
 use lib.Dec.{leb, eqb}
 use lib.ListN.{length, getD}
+use Rattle.std.specs.declared.option.Option.{Option}
+use Rattle.std.specs.declared.option.Option.the-variants.{Some, None}
 use Rattle.std.specs.declared.result.Result.{Result}
 use Rattle.std.specs.declared.result.Result.the-variants.{Ok, Err}
 use Rattle.codec.specs.Limits.{millisecondLimit, microsecondLimit}
@@ -27,6 +29,11 @@ andThen (Err e) next = Err e
 -- What is read next where a value may be so; else a fault of value at its field's place.
 abbrev pub provided : {X : Type 0} → Bool → ℕ → Result X Fault → Result X Fault
 provided allowed at next = cond allowed next (Err (fault Value at))
+
+-- A value that an octet stands for, or a fault of value where it stands for none.
+abbrev pub orValueFault : {X : Type 0} → Option X → ℕ → Result X Fault
+orValueFault (Some x) at = Ok x
+orValueFault None at = Err (fault Value at)
 
 -- The number of two and of four octets from a place on, the high octet first.
 abbrev pub twoOctetNumber : List ℕ → ℕ → ℕ

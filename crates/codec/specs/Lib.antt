@@ -1,5 +1,9 @@
 pub mod Limits
 pub mod Times
 pub mod Fields
+pub mod Blocks
 pub mod Records
 pub mod RecordReading
+pub mod Reader
+pub mod Invocations
+pub mod InvocationReading

@@ -1,5 +1,4 @@
 -- Reading records: the one at a place, all those of a PDU, and a string of octets that is exactly one.
-use denote.Ref.{now}
 use mathlib.Core.Bool.{Bool, cond}
 use mathlib.Core.List.{List, [], _∷_}
 use Prim.Native.Nat.{ℕ, zero, suc, _+_}
@@ -11,7 +10,7 @@ use Rattle.std.specs.declared.result.Result.{Result}
 use Rattle.std.specs.declared.result.Result.the-variants.{Ok, Err}
 use Rattle.codec.specs.Limits.{timeLength, frameHeaderLength, notificationLength}
 use Rattle.codec.specs.Times.{Stamp, stamp}
-use Rattle.codec.specs.Fields.{fault, present, andThen, provided, octetAt, twoOctetsAt, stampAt, zeroStampAt}
+use Rattle.codec.specs.Fields.{fault, present, andThen, provided, orValueFault, octetAt, twoOctetsAt, stampAt, zeroStampAt}
 use Rattle.codec.specs.Records.{Record, frame, loss, status, endOfData, frameMark, notificationMark, lossType, statusType, endOfDataType, dataLengthAllowed, encode}
 use Rattle.codec.specs.declared.fault.Fault.{Fault}
 use Rattle.codec.specs.declared.fault.FaultKind.the-variants.{Mark, Value}
@@ -22,7 +21,6 @@ use Rattle.codec.specs.declared.record.ProductionStatus.the-variants.{Running,
 use Rattle.codec.specs.declared.record.Notification.the-variants.{LossOfFrameSynchronization, ProductionStatusChange, EndOfData}
 use Rattle.codec.specs.declared.record.RecordContent.{RecordContent}
 use Rattle.codec.specs.declared.record.RecordContent.the-variants.{Frame, Notification}
-use Rattle.codec.specs.declared.record.RecordPart.{RecordPart}
 
 -- What a record says, but for a frame's data, of which it has the length.
 pub data Content : Type 0 where
@@ -59,11 +57,7 @@ qualityOf n = cond (eqb n 0) (Some Good) (cond (eqb n 1) (Some Erred) (cond (eqb
 abbrev pub statusOf : ℕ → Option ProductionStatus
 statusOf n = cond (eqb n 0) (Some Running) (cond (eqb n 1) (Some Interrupted) (cond (eqb n 2) (Some Halted) None))
 
--- A value that an octet stands for, or a fault of value where it stands for none.
-abbrev pub orValueFault : {X : Type 0} → Option X → ℕ → Result X Fault
-orValueFault (Some x) at = Ok x
-orValueFault None at = Err (fault Value at)
-
+-- The fields of a quality and of a production status.
 abbrev pub qualityAt : List ℕ → ℕ → Result Quality Fault
 qualityAt xs at = andThen (octetAt xs at) (λ n. orValueFault (qualityOf n) at)
 
@@ -131,16 +125,16 @@ recordOf xs at endContent = endOfData
 unfoldable pub recordAt : List ℕ → ℕ → Result Record Fault
 recordAt xs at = andThen (contentAt xs at) (λ c. Ok (recordOf xs at c))
 
-abbrev pub before : Record → Result (List Record) Fault → Result (List Record) Fault
-before r (Ok rs) = Ok (r ∷ rs)
-before r (Err e) = Err e
+abbrev pub prepended : Record → Result (List Record) Fault → Result (List Record) Fault
+prepended r (Ok rs) = Ok (r ∷ rs)
+prepended r (Err e) = Err e
 
 -- The records from a place to the input's end, at most n of them.
 abbrev pub recordsFrom : ℕ → List ℕ → ℕ → Result (List Record) Fault
 recordsFrom zero xs at = Ok []
 recordsFrom (suc n) xs at =
     cond (leb (length xs) at) (Ok [])
-    (andThen (recordAt xs at) (λ r. before r (recordsFrom n xs (at + length (encode r)))))
+    (andThen (recordAt xs at) (λ r. prepended r (recordsFrom n xs (at + length (encode r)))))
 
 -- All the records of a PDU, or the first fault; each has an octet at least, so there are no more than octets.
 unfoldable pub recordsIn : List ℕ → Result (List Record) Fault

@@ -1,4 +1,5 @@
 // The octets between receiver, provider and user: times, records and invocations, written and read.
+pub(crate) mod blocks;
 pub mod fault;
 pub(crate) mod fields;
 pub mod invocation;

@@ -1,0 +1,38 @@
+ghost use mathlib.Core.Path.{_≡_};
+ghost use Rattle.std.specs.shelf.Text.{sameBytes};
+ghost use Rattle.codec.specs.Invocations.{named, namedIf, identifierFrom};
+use super::Identifier;
+use super::LONGEST_IDENTIFIER;
+use super::SHORTEST_IDENTIFIER;
+use crate::blocks::place_block;
+
+impl Identifier {
+    // The identifier of these octets, if an identifier may have so many.
+    pub fn new(octets: &[u8]) -> Option<Identifier>
+        ensures { λ r. ⌜ namedIf r ≡ identifierFrom (now (octets .entry)) ⌝ }
+    {
+        let count = octets.len();
+        if count < SHORTEST_IDENTIFIER || count > LONGEST_IDENTIFIER {
+            return None;
+        }
+        let mut held = [0; LONGEST_IDENTIFIER];
+        place_block(&mut held, 0, octets);
+        Some(Identifier {
+            octets: held,
+            count,
+        })
+    }
+
+    pub fn octets(&self) -> &[u8]
+        ensures { λ r. ⌜ now r ≡ named (now (self .entry)) ⌝ }
+    {
+        &self.octets[0..self.count]
+    }
+
+    // Whether the two have the same octets.
+    pub fn same(&self, other: &Identifier) -> bool
+        ensures { λ r. ⌜ r ≡ sameBytes (named (now (self .entry))) (named (now (other .entry))) ⌝ }
+    {
+        self.octets() == other.octets()
+    }
+}
