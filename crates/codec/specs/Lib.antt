@@ -1,4 +1,5 @@
 pub mod Limits
+pub mod Octets
 pub mod Times
 pub mod Fields
 pub mod Blocks
