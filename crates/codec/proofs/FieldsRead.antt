@@ -34,9 +34,10 @@ four-octets-of a b c d h k l m =
 
 -- a block that is there is what stands before the rest
 pub block-read : (xs : List ℕ) (at n : ℕ) → at + n ≤ length xs → (length (take n (drop at xs)) ≡ n) × (drop at xs ≡ take n (drop at xs) ++ drop (at + n) xs)
-block-read xs at n h =
-    (length-take-le n (drop at xs) (omega (arith, length-drop at xs)),
-     sym (take-append-drop n (drop at xs)) ∙ ap (λ r. take n (drop at xs) ++ r) (drop-drop n at xs))
+block-read xs at n h = (
+  length-take-le n (drop at xs) (omega (arith, length-drop at xs)),
+  sym (take-append-drop n (drop at xs)) ∙ ap (λ r. take n (drop at xs) ++ r) (drop-drop n at xs),
+)
 
 -- a field of n octets that has this value, within the input
 pub record Stands (xs field : List ℕ) (at n : ℕ) : Type 0 where
@@ -85,7 +86,7 @@ module _ (xs : List ℕ) (octets : Octets xs) where
 
   -- three fields that stand one behind the other are a stamp
   stamp-stands : (at d ms us : ℕ) → Stands xs (twoOctets d) at 2 → Stands xs (fourOctets ms) (at + 2) 4 → Stands xs (twoOctets us) (at + 6) 2
-    → Stands xs (stampOctets (record { day = d; millisecond = ms; microsecond = us })) at timeLength
+      → Stands xs (stampOctets (record { day = d; millisecond = ms; microsecond = us })) at timeLength
   stamp-stands at d ms us f1 f2 f3 =
       let k1 : at + 2 + 4 ≡ at + 6 = omega arith in
       let k2 : at + 6 + 2 ≡ at + timeLength = omega arith in
@@ -102,9 +103,10 @@ module _ (xs : List ℕ) (octets : Octets xs) where
       let d = andThen-ok (twoOctetsAt xs (at + 6)) _ (c .1) in
       let e = cond-ok (leb (d .0) microsecondLimit) _ _ (d .2) in
       let f = two-octets-read at (a .0) (a .1) in
-      subst (λ z. (timely z ≡ true) × Stands xs (stampOctets z) at timeLength) (same-ok (e .1))
-      (and-from (leb (a .0) dayLimit) _ (le-leb (a .0) dayLimit (f .1)) (and-from (leb (b .0) millisecondLimit) _ (c .0) (e .0)),
-       stamp-stands at (a .0) (b .0) (d .0) (f .0) (four-octets-read (at + 2) (b .0) (b .1)) (two-octets-read (at + 6) (d .0) (d .1) .0))
+      subst (λ z. (timely z ≡ true) × Stands xs (stampOctets z) at timeLength) (same-ok (e .1)) (
+        and-from (leb (a .0) dayLimit) _ (le-leb (a .0) dayLimit (f .1)) (and-from (leb (b .0) millisecondLimit) _ (c .0) (e .0)),
+        stamp-stands at (a .0) (b .0) (d .0) (f .0) (four-octets-read (at + 2) (b .0) (b .1)) (two-octets-read (at + 6) (d .0) (d .1) .0),
+      )
 
   pub zero-stamp-read : (at : ℕ) (w : Unit {0}) → zeroStampAt xs at ≡ Ok w → Stands xs (stampOctets zeroStamp) at timeLength
   zero-stamp-read at w h =

@@ -50,6 +50,16 @@ pub record Begins (xs : List ℕ) (at : ℕ) (r : Record) : Type 0 where
   pub formed : WellFormed r
   pub stands : Stands xs (encode r) at (length (encode r))
 
+-- a data length that was read: two octets, within its limits, with the data behind it
+pub length-read : (xs : List ℕ) (at n : ℕ) → dataLengthAt xs at ≡ Ok n → (twoOctetsAt xs at ≡ Ok n) × (1 ≤ n) × (n ≤ dataLimit) × (at + 2 + n ≤ length xs)
+length-read xs at n h =
+    let a = andThen-ok (twoOctetsAt xs at) _ h in
+    let b = cond-ok (dataLengthAllowed (a .0)) _ _ (a .2) in
+    let c = cond-ok (leb (at + 2 + a .0) (length xs)) (Ok (a .0)) _ (b .1) in
+    let limits = and-parts (leb 1 (a .0)) (leb (a .0) dataLimit) (b .0) in
+    subst (λ m. (twoOctetsAt xs at ≡ Ok m) × (1 ≤ m) × (m ≤ dataLimit) × (at + 2 + m ≤ length xs)) (same-ok (c .1))
+    (a .1, leb-true _ _ (limits .0), leb-true _ _ (limits .1), leb-true _ _ (c .0))
+
 module _ (xs : List ℕ) (octets : Octets xs) where
   zero-read : (at : ℕ) (w : Unit {0}) → zeroAt xs at ≡ Ok w → octetAt xs at ≡ Ok 0
   zero-read at w h =
@@ -63,16 +73,6 @@ module _ (xs : List ℕ) (octets : Octets xs) where
   status-read : (at : ℕ) (s : ProductionStatus) → statusAt xs at ≡ Ok s → octetAt xs at ≡ Ok (statusOctet s)
   status-read at s h = let a = andThen-ok (octetAt xs at) _ h in a .1 ∙ ap Ok (status-octet (a .0) s (orValueFault-ok _ at (a .2)))
 
-  -- a data length that was read: two octets, within its limits, with the data behind it
-  length-read : (at n : ℕ) → dataLengthAt xs at ≡ Ok n → (twoOctetsAt xs at ≡ Ok n) × (1 ≤ n) × (n ≤ dataLimit) × (at + 2 + n ≤ length xs)
-  length-read at n h =
-      let a = andThen-ok (twoOctetsAt xs at) _ h in
-      let b = cond-ok (dataLengthAllowed (a .0)) _ _ (a .2) in
-      let c = cond-ok (leb (at + 2 + a .0) (length xs)) (Ok (a .0)) _ (b .1) in
-      let limits = and-parts (leb 1 (a .0)) (leb (a .0) dataLimit) (b .0) in
-      subst (λ m. (twoOctetsAt xs at ≡ Ok m) × (1 ≤ m) × (m ≤ dataLimit) × (at + 2 + m ≤ length xs)) (same-ok (c .1))
-      (a .1, leb-true _ _ (limits .0), leb-true _ _ (limits .1), leb-true _ _ (c .0))
-
   frame-read : (at : ℕ) (c : Content) → twoOctetsAt xs at ≡ Ok frameMark → frameAt xs at ≡ Ok c → Begins xs at (recordOf xs at c)
   unfolding encode
   frame-read at c m h =
@@ -82,19 +82,20 @@ module _ (xs : List ℕ) (octets : Octets xs) where
       let t = b .0 in
       let e = andThen-ok (dataLengthAt xs (at + 3 + timeLength)) _ (b .2) in
       let n = e .0 in
-      let l = length-read (at + 3 + timeLength) n (e .1) in
+      let l = length-read xs (at + 3 + timeLength) n (e .1) in
       let k : at + 3 + timeLength + 2 ≡ at + frameHeaderLength = omega arith in
       let block = block-read xs (at + frameHeaderLength) n (omega (arith, l .3)) in
       let d = take n (drop (at + frameHeaderLength) xs) in
       let d-long : length d ≡ n = block .0 in
       let k1 : at + 2 + 1 ≡ at + 3 = omega arith in
-      let end : at + frameHeaderLength + n ≡ at + (frameHeaderLength + length d) = omega arith in
+      let whole = length (encode (frame q t d)) in
+      let end : at + frameHeaderLength + n ≡ at + whole = omega arith in
       let f0 = two-octets-read xs octets at frameMark m .0 .here in
       let f1 = octet-read xs octets (at + 2) (qualityOctet q) (quality-read (at + 2) q (a .1)) .0 .here ∙ ap (λ j. qualityOctet q ∷ drop j xs) k1 in
       let f2 = stamp-read xs octets (at + 3) t (b .1) in
       let f3 = two-octets-read xs octets (at + 3 + timeLength) n (l .0) .0 .here ∙ ap (λ j. twoOctets n ++ drop j xs) k in
       let f4 = block .1 ∙ ap (λ j. d ++ drop j xs) end in
-      let tail = f3 ∙ ap (λ r. twoOctets n ++ r) f4 ∙ ap (λ j. twoOctets j ++ (d ++ drop (at + (frameHeaderLength + length d)) xs)) (sym d-long) in
+      let tail = f3 ∙ ap (λ r. twoOctets n ++ r) f4 ∙ ap (λ j. twoOctets j ++ (d ++ drop (at + whole) xs)) (sym d-long) in
       let timed = f2 .1 .here ∙ ap (λ r. stampOctets t ++ r) tail in
       subst (λ z. Begins xs at (recordOf xs at z)) (same-ok (e .2))
       (record {
@@ -107,8 +108,8 @@ module _ (xs : List ℕ) (octets : Octets xs) where
 
   -- a notification's fields, put together
   notification-joins : (at type value : ℕ) (t : Stamp) → twoOctetsAt xs at ≡ Ok notificationMark → octetAt xs (at + 2) ≡ Ok type
-    → Stands xs (stampOctets t) (at + 3) timeLength → octetAt xs (at + 3 + timeLength) ≡ Ok value
-    → Stands xs (notificationOctets type t value) at notificationLength
+      → Stands xs (stampOctets t) (at + 3) timeLength → octetAt xs (at + 3 + timeLength) ≡ Ok value
+      → Stands xs (notificationOctets type t value) at notificationLength
   notification-joins at type value t m k time v =
       let f0 = two-octets-read xs octets at notificationMark m .0 .here in
       let k1 : at + 2 + 1 ≡ at + 3 = omega arith in

@@ -8,6 +8,7 @@ use Rattle.std.specs.declared.option.Option.{Option}
 use Rattle.std.specs.declared.option.Option.the-variants.{Some, None}
 use Rattle.std.specs.declared.result.Result.{Result}
 use Rattle.std.specs.declared.result.Result.the-variants.{Ok, Err}
+use Rattle.std.specs.shelf.Text.{sameBytes}
 use Rattle.codec.specs.Limits.{timeLength, frameHeaderLength, notificationLength}
 use Rattle.codec.specs.Times.{Stamp, stamp}
 use Rattle.codec.specs.Fields.{fault, present, andThen, provided, orValueFault, octetAt, twoOctetsAt, stampAt, zeroStampAt}
@@ -140,13 +141,13 @@ recordsFrom (suc n) xs at =
 unfoldable pub recordsIn : List ℕ → Result (List Record) Fault
 recordsIn xs = recordsFrom (length xs) xs 0
 
-abbrev pub alone : Result Record Fault → ℕ → Option Record
-alone (Ok r) n = cond (eqb (length (encode r)) n) (Some r) None
-alone (Err e) n = None
+abbrev pub whole : List ℕ → Result Record Fault → Option Record
+whole xs (Ok r) = cond (sameBytes (encode r) xs) (Some r) None
+whole xs (Err e) = None
 
--- The record that the octets are, if they are exactly one.
+-- The record that the octets are, if they are exactly one: it stands at their front, and they are its octets.
 unfoldable pub oneRecord : List ℕ → Option Record
-oneRecord xs = alone (recordAt xs 0) (length xs)
+oneRecord xs = whole xs (recordAt xs 0)
 
 -- How many octets a record of this content has.
 abbrev pub size : Content → ℕ
