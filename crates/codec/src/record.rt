@@ -4,8 +4,13 @@ ghost use lib.ListN.{length};
 use crate::time::TIME_LENGTH;
 use crate::time::Time;
 
+mod marks;
 mod read;
 mod values;
+mod write;
+
+pub use write::write_frame;
+pub use write::write_notification;
 
 // The longest data of a frame; the shortest is one octet.
 pub const DATA_LIMIT: usize = 2048;

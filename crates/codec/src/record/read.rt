@@ -8,6 +8,11 @@ use super::Notification;
 use super::ProductionStatus;
 use super::Quality;
 use super::RecordContent;
+use super::marks::END_OF_DATA_TYPE;
+use super::marks::FRAME_MARK;
+use super::marks::LOSS_TYPE;
+use super::marks::NOTIFICATION_MARK;
+use super::marks::STATUS_TYPE;
 use crate::fault::Fault;
 use crate::fault::FaultKind;
 use crate::fields::octet_at;
@@ -15,16 +20,6 @@ use crate::fields::two_octets_at;
 use crate::time::TIME_LENGTH;
 use crate::time::read::time_at;
 use crate::time::read::zero_time_at;
-
-const FRAME_MARK: u16 = 0x4652;
-
-const NOTIFICATION_MARK: u16 = 0x4E54;
-
-const LOSS_TYPE: u8 = 0;
-
-const STATUS_TYPE: u8 = 1;
-
-const END_OF_DATA_TYPE: u8 = 3;
 
 fn quality_at(input: &[u8], place: usize) -> Result<Quality, Fault>
     requires { ⌜ place ≤ length (now input) ⌝ }

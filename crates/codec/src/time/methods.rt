@@ -1,5 +1,5 @@
 ghost use mathlib.Core.Path.{_≡_};
-ghost use Rattle.codec.specs.Times.{stamp, stampOr, checkedStamp, stampOctets, ordered, compared};
+ghost use Rattle.codec.specs.Times.{stamp, stampOr, zeroStamp, checkedStamp, stampOctets, ordered, compared};
 use super::MICROSECOND_LIMIT;
 use super::MILLISECOND_LIMIT;
 use super::TIME_LENGTH;
@@ -23,6 +23,17 @@ impl Time {
             millisecond,
             microsecond: microsecond as u16,
         })
+    }
+
+    // The time whose numbers are all zero.
+    pub fn zero() -> Time
+        ensures { λ r. ⌜ stamp r ≡ zeroStamp ⌝ }
+    {
+        Time {
+            day: 0,
+            millisecond: 0,
+            microsecond: 0,
+        }
     }
 
     pub fn day(&self) -> u16
