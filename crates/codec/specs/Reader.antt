@@ -10,7 +10,7 @@ use Rattle.std.specs.declared.option.Option.the-variants.{Some, None}
 use Rattle.std.specs.declared.result.Result.{Result}
 use Rattle.std.specs.declared.result.Result.the-variants.{Ok, Err}
 use Rattle.codec.specs.Fields.{andThen}
-use Rattle.codec.specs.Records.{Record, encode}
+use Rattle.codec.specs.Records.{encode}
 use Rattle.codec.specs.RecordReading.{recordAt}
 use Rattle.codec.specs.declared.fault.Fault.{Fault}
 use Rattle.codec.specs.declared.record.RecordPart.{RecordPart}
@@ -20,22 +20,31 @@ pub record Part : Type 0 where
   pub octets : List ℕ
   pub place : ℕ
 
--- The part that the code hands out.
-abbrev pub handed : Result (Option RecordPart) Fault → Result (Option Part) Fault
-handed (Ok (Some part)) = Ok (Some (record { octets = now (part .octets); place = part .place }))
-handed (Ok None) = Ok None
-handed (Err e) = Err e
+-- The parts that the code hands out.
+abbrev pub partOf : RecordPart → Part
+partOf part = record { octets = now (part .octets); place = part .place }
 
--- At the PDU's end none; else the record at the cursor by its octets and its place, or its fault.
+abbrev pub partOr : Result RecordPart Fault → Result Part Fault
+partOr (Ok part) = Ok (partOf part)
+partOr (Err e) = Err e
+
+abbrev pub partIfOr : Result (Option RecordPart) Fault → Result (Option Part) Fault
+partIfOr (Ok (Some part)) = Ok (Some (partOf part))
+partIfOr (Ok None) = Ok None
+partIfOr (Err e) = Err e
+
+-- The record at a place by its octets and its place, or its fault.
+abbrev pub partAt : List ℕ → ℕ → Result Part Fault
+partAt pdu at = andThen (recordAt pdu at) (λ r. Ok (record { octets = encode r; place = at }))
+
+-- What is handed out: at the PDU's end none, else the record at the cursor.
 abbrev pub nextPart : List ℕ → ℕ → Result (Option Part) Fault
-nextPart pdu at =
-    cond (leb (length pdu) at) (Ok None)
-    (andThen (recordAt pdu at) (λ r. Ok (Some (record { octets = encode r; place = at }))))
+nextPart pdu at = cond (leb (length pdu) at) (Ok None) (andThen (partAt pdu at) (λ part. Ok (Some part)))
 
--- Behind a record that was read; a fault does not move the cursor, nor does the end.
-abbrev pub past : Result Record Fault → ℕ → ℕ
-past (Ok r) at = at + length (encode r)
-past (Err e) at = at
+-- The cursor afterwards: behind the part that was handed out; a fault does not move it, nor does the end.
+abbrev pub behindPart : Result Part Fault → ℕ → ℕ
+behindPart (Ok part) at = at + length (part .octets)
+behindPart (Err e) at = at
 
 abbrev pub nextCursor : List ℕ → ℕ → ℕ
-nextCursor pdu at = cond (leb (length pdu) at) at (past (recordAt pdu at) at)
+nextCursor pdu at = cond (leb (length pdu) at) at (behindPart (partAt pdu at) at)

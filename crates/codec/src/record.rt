@@ -6,9 +6,12 @@ use crate::time::Time;
 
 mod marks;
 mod read;
+mod reader;
 mod values;
 mod write;
 
+pub use read::one_record;
+pub use read::record_content;
 pub use write::write_frame;
 pub use write::write_notification;
 
