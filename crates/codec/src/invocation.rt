@@ -5,7 +5,9 @@ ghost use Rattle.codec.specs.Limits.{shortestIdentifier, longestIdentifier};
 use crate::fault::Fault;
 use crate::time::Time;
 
+mod body;
 mod identifiers;
+mod values;
 
 // The shortest and the longest identifier.
 pub const SHORTEST_IDENTIFIER: usize = 3;
