@@ -7,7 +7,12 @@ use crate::time::Time;
 
 mod body;
 mod identifiers;
+mod read;
 mod values;
+
+pub use read::InvocationFaultFromFault;
+pub use read::decode_invocation;
+pub use read::read_invocation;
 
 // The shortest and the longest identifier.
 pub const SHORTEST_IDENTIFIER: usize = 3;
