@@ -1,5 +1,6 @@
 pub mod Limits
 pub mod Octets
+pub mod Faults
 pub mod Times
 pub mod Fields
 pub mod Blocks

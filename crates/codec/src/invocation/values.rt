@@ -1,6 +1,7 @@
 ghost use mathlib.Core.Path.{_≡_};
-ghost use Rattle.codec.specs.Invocations.{requestedQualityOctet, reasonOctet};
+ghost use Rattle.codec.specs.Invocations.{requestedQualityOctet, reasonOctet, number};
 ghost use Rattle.codec.specs.InvocationReading.{requestedQualityOf, reasonOf};
+use super::InvocationFault;
 use super::RequestedQuality;
 use super::UnbindReason;
 
@@ -52,6 +53,23 @@ impl UnbindReason {
             UnbindReason::Suspend => 1,
             UnbindReason::VersionNotSupported => 2,
             UnbindReason::Other => 127,
+        }
+    }
+}
+
+impl InvocationFault {
+    // The number under which the refusal is answered.
+    pub fn number(self) -> u8
+        ensures { λ r. ⌜ r ≡ number self ⌝ }
+    {
+        match self {
+            InvocationFault::Undecodable(_) => 20,
+            InvocationFault::ProtocolError => 21,
+            InvocationFault::AccessDenied => 22,
+            InvocationFault::VersionNotSupported => 23,
+            InvocationFault::InvalidStopTime => 24,
+            InvocationFault::OutOfService => 25,
+            InvocationFault::NoAssociation => 26,
         }
     }
 }
