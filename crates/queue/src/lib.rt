@@ -1,0 +1,4 @@
+pub mod interface;
+pub mod lent;
+pub mod meaning;
+pub mod refusal;
