@@ -1,6 +1,6 @@
 ghost use mathlib.Core.Path.{_≡_};
 ghost use mathlib.Core.List.{[], _∷_, _++_};
-ghost use Prim.Native.Nat.{ℕ, _+_, _≤_};
+ghost use Prim.Native.Nat.{ℕ, _+_, _^_, _≤_, _<_};
 ghost use lib.ListN.{length};
 ghost use Rattle.queue.specs.Answers.{answer-of, first-answer};
 ghost use Rattle.ring.specs.Rings.{elements};
@@ -24,7 +24,7 @@ impl<'a> Packed<'a> {
 
     // Puts a record, for which there is room, behind those held.
     pub(crate) fn put(&mut self, octets: &[u8])
-        requires { ⌜ length (elements (now self .ring)) + (length (now octets) + head-size) ≤ octets-in (now self) ⌝ ∗ ⌜ length (now octets) ≤ length-limit ⌝ }
+        requires { ⌜ length (elements (now self .ring)) + (length (now octets) + head-size) ≤ octets-in (now self) ⌝ ∗ ⌜ length (now octets) ≤ length-limit ⌝ ∗ ⌜ octets-in (now self) < 2 ^ 64 ⌝ }
         ensures list { λ _. ⌜ held-in (now (self .exit)) ≡ held-in (now (self .entry)) ++ (now (octets .entry) ∷ []) ⌝ }
         ensures same { λ _. ⌜ octets-in (now (self .exit)) ≡ octets-in (now (self .entry)) ⌝ }
     {

@@ -1,4 +1,6 @@
 ghost use mathlib.Core.Path.{_≡_};
+ghost use Prim.Native.Nat.{_^_, _<_};
+ghost use Rattle.queue.specs.Answers.{answer-of, add-answer};
 ghost use Rattle.packed.specs.Packing.{packed-largest, packed-room, room-beside};
 ghost use Rattle.packed.specs.Holding.{held-in, octets-in};
 use super::Packed;
@@ -30,6 +32,20 @@ fn fits_beside(octets: usize, used: usize, n: usize) -> bool
     n + HEAD_SIZE <= octets - used
 }
 
+impl<'a> Packed<'a> {
+    // Whether a record of `n` octets is taken now.
+    fn admission(&mut self, n: usize) -> Result<(), Refusal>
+        ensures answer { λ r. ⌜ answer-of r ≡ add-answer (packed-largest (octets-in (now (self .entry)))) (packed-room (octets-in (now (self .entry))) (held-in (now (self .entry)))) n ⌝ }
+        ensures list { λ _. ⌜ held-in (now (self .exit)) ≡ held-in (now (self .entry)) ⌝ }
+        ensures same { λ _. ⌜ octets-in (now (self .exit)) ≡ octets-in (now (self .entry)) ⌝ }
+        ensures bounded { λ _. ⌜ octets-in (now (self .exit)) < 2 ^ 64 ⌝ }
+    {
+        let size = self.ring.size();
+        let used = self.ring.count();
+        admit(n, largest_within(size), fits_beside(size, used, n))
+    }
+}
+
 pub impl<'a> Meaning for Packed<'a> as PackedMeaning {
     ghost held = { held-in };
 
@@ -48,16 +64,13 @@ pub impl<'a> Queue for Packed<'a> as PackedQueue {
     }
 
     fn room_for(&mut self, n: usize) -> bool {
-        let octets = self.ring.size();
+        let size = self.ring.size();
         let used = self.ring.count();
-        fits_beside(octets, used, n)
+        fits_beside(size, used, n)
     }
 
     fn add(&mut self, octets: &[u8]) -> Result<(), Refusal> {
-        let n = octets.len();
-        let largest = self.largest();
-        let room = self.room_for(n);
-        admit(n, largest, room)?;
+        self.admission(octets.len())?;
         self.put(octets);
         Ok(())
     }
