@@ -5,7 +5,7 @@ use Prim.Native.Nat.{ℕ, suc, _+_, _-_, _*_, _/_, _%_, min, _≤_, _<_}
 use native.Mathlib.Omega.{arith}
 use lib.ListN.{length, take, drop, length-drop, length-append}
 use Rattle.std.proofs.shelf.Lists.{take-at, drop-at, length-push, length-take-le}
-use mathlib.Core.Bool.{true, _&&_}
+use mathlib.Core.Bool.{true}
 use lib.Dec.{leb, ltb}
 use Rattle.std.proofs.shelf.Lists.{drop-append-le, take-append-le}
 use Rattle.std.proofs.shelf.Tests.{and-parts, leb-true}

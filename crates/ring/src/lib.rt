@@ -1,3 +1,4 @@
-pub mod block;
+mod block;
+pub mod memory;
 pub mod ring;
 mod round;

@@ -1,7 +1,7 @@
 use native.Mathlib.Omega.{arith}
 use mathlib.Core.Path.{_≡_, ap, _∙_}
 use mathlib.Core.List.{_++_}
-use Prim.Native.Nat.{_+_, _-_}
+use Prim.Native.Nat.{_-_}
 use lib.ListN.{length, take, drop, length-take, length-drop, length-append}
 use Rattle.std.proofs.shelf.Lists.{take-rest, length-take-le}
 use Rattle.ring.proofs.Writing.{filled-behind}

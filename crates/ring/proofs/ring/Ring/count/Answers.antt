@@ -3,7 +3,6 @@ use native.Mathlib.Omega.{arith}
 use mathlib.Core.Path.{_≡_}
 use lib.ListN.{length, length-take}
 use denote.Ref.{now}
-use Rattle.ring.specs.Turns.{turned}
 use Rattle.ring.specs.Rings.{elements}
 use Rattle.ring.proofs.Turning.{length-turned}
 use Rattle.ring.proofs.ring.Ring.count.Needs as need

@@ -1,5 +1,5 @@
 use native.Mathlib.Omega.{arith}
-use mathlib.Core.Path.{_∙_, sym, ap}
+use mathlib.Core.Path.{_∙_, ap}
 use lib.ListN.{length}
 use Rattle.queue.proofs.Admitting.{admitted}
 use Rattle.packed.specs.Packing.{packed-largest, packed-room, packed-size}
