@@ -4,9 +4,10 @@ use mathlib.Core.List.{List, []}
 use mathlib.Core.Bool.{true}
 use Prim.Native.Nat.{ℕ, _+_, _≤_, _<_}
 use native.Mathlib.Omega.{arith}
-use lib.Dec.{ltb, leb}
-use Rattle.std.proofs.shelf.Tests.{lt-ltb, le-leb, ltb-true, leb-true, and-parts}
+use lib.Dec.{leb}
+use Rattle.std.proofs.shelf.Tests.{lt-ltb, le-leb, and-parts}
 use Rattle.queue.specs.Answers.{fair}
+use Rattle.queue.proofs.Admission.{fair-bounds}
 use Rattle.packed.specs.Packing.{packed-room, packed-largest, packed-size, head-size}
 
 pub packed-vacant : (octets : ℕ) (held : List (List ℕ)) (n : ℕ) → held ≡ [] → 0 < n → n ≤ packed-largest octets → packed-room octets held n ≡ true
@@ -20,5 +21,4 @@ packed-vacant octets held n e p l =
 pub packed-bounded : (octets : ℕ) (held : List (List ℕ)) (n : ℕ) → packed-room octets held n ≡ true → (0 < n) × (n ≤ packed-largest octets)
 packed-bounded octets held n e =
     let p = and-parts (fair (packed-largest octets) n) (leb (packed-size held + (n + head-size)) octets) e in
-    let q = and-parts (ltb 0 n) (leb n (packed-largest octets)) (p .0) in
-    (ltb-true 0 n (q .0), leb-true n (packed-largest octets) (q .1))
+    fair-bounds (packed-largest octets) n (p .0)

@@ -6,10 +6,11 @@ use native.Mathlib.Omega.{arith}
 use lib.ListN.{length, take, drop, length-drop, length-append}
 use Rattle.std.proofs.shelf.Lists.{take-at, drop-at, length-push, length-take-le}
 use mathlib.Core.Bool.{true}
-use lib.Dec.{leb, ltb}
+use lib.Dec.{leb}
 use Rattle.std.proofs.shelf.Lists.{drop-append-le, take-append-le}
 use Rattle.std.proofs.shelf.Tests.{and-parts, leb-true}
 use Rattle.queue.specs.Answers.{gives, refuses, fair, first-answer, read-answer, read-buffer, drop-answer, rest}
+use Rattle.queue.proofs.Admission.{fair-bounds}
 use Rattle.queue.proofs.Reading.{read-part, read-past}
 use Rattle.ring.specs.Rings.{elements, added, dropped}
 use Rattle.ring.specs.Parts.{part-read}
@@ -125,5 +126,5 @@ used-is p = ap length (sym (p .whole)) ∙ length-packed (held-in p)
 pub room-fits : (octets used n : ℕ) → room-beside octets used n ≡ true → (used + (n + head-size) ≤ octets) × (n ≤ length-limit)
 room-fits octets used n e =
     let p = and-parts (fair (packed-largest octets) n) (leb (used + (n + head-size)) octets) e in
-    let q = and-parts (ltb 0 n) (leb n (packed-largest octets)) (p .0) in
-    (leb-true (used + (n + head-size)) octets (p .1), (let l = leb-true n (packed-largest octets) (q .1) in omega arith))
+    let q = fair-bounds (packed-largest octets) n (p .0) in
+    (leb-true (used + (n + head-size)) octets (p .1), omega (arith, q .1))

@@ -1,2 +1,3 @@
-pub mod Admitting
+pub mod Admission
+pub mod Carrying
 pub mod Reading

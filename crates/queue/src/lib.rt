@@ -1,3 +1,4 @@
+pub mod carry;
 pub mod interface;
 pub mod lent;
 pub mod meaning;

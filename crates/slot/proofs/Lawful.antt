@@ -5,10 +5,11 @@ use mathlib.Core.Bool.{true}
 use Prim.Native.Nat.{ℕ, _≤_, _<_}
 use native.Mathlib.Omega.{arith}
 use mathlib.Core.Logic.{inl, inr}
-use lib.Dec.{ltb, leb}
+use lib.Dec.{ltb}
 use lib.ListN.{length}
-use Rattle.std.proofs.shelf.Tests.{lt-ltb, le-ltb, le-leb, ltb-true, leb-true, and-parts, cases-lt}
+use Rattle.std.proofs.shelf.Tests.{lt-ltb, le-ltb, le-leb, and-parts, cases-lt}
 use Rattle.queue.specs.Answers.{fair}
+use Rattle.queue.proofs.Admission.{fair-bounds}
 use Rattle.slot.specs.Slots.{slot-room, slot-largest}
 
 some-slot : (slots w n : ℕ) → 0 < n → n ≤ slot-largest slots w → 0 < slots
@@ -27,5 +28,4 @@ slot-vacant slots w held n e p l =
 pub slot-bounded : (slots w : ℕ) (held : List (List ℕ)) (n : ℕ) → slot-room slots w held n ≡ true → (0 < n) × (n ≤ slot-largest slots w)
 slot-bounded slots w held n e =
     let p = and-parts (fair (slot-largest slots w) n) (ltb (length held) slots) e in
-    let q = and-parts (ltb 0 n) (leb n (slot-largest slots w)) (p .0) in
-    (ltb-true 0 n (q .0), leb-true n (slot-largest slots w) (q .1))
+    fair-bounds (slot-largest slots w) n (p .0)

@@ -6,12 +6,13 @@ use mathlib.Core.Bool.{true}
 use Prim.Native.Nat.{ℕ, _+_, _*_, _/_, min, _≤_, _<_}
 use native.Mathlib.Omega.{arith}
 use native.Mathlib.Numerals.{add-one}
-use lib.Dec.{ltb, leb}
+use lib.Dec.{ltb}
 use lib.ListN.{length}
 use Rattle.std.proofs.shelf.Lists.{map-push, length-push}
-use Rattle.std.proofs.shelf.Tests.{lt-ltb, le-ltb, cases-lt, and-parts, ltb-true, leb-true}
+use Rattle.std.proofs.shelf.Tests.{lt-ltb, le-ltb, cases-lt, and-parts, ltb-true}
 use native.Mathlib.Nat.{div-mul-le-self, mul-le-mul-right}
 use Rattle.queue.specs.Answers.{fair}
+use Rattle.queue.proofs.Admission.{fair-bounds}
 use Rattle.ring.specs.Parts.{written, part-written}
 use Rattle.ring.specs.Memories.{contents}
 use Rattle.ring.specs.Rings.{elements, size, added}
@@ -86,8 +87,7 @@ slots-fit notes octets w =
 pub room-fits : (slots w count n : ℕ) → room-beside slots w count n ≡ true → (count < slots) × (n ≤ w)
 room-fits slots w count n e =
     let p = and-parts (fair (slot-largest slots w) n) (ltb count slots) e in
-    let q = and-parts (ltb 0 n) (leb n (slot-largest slots w)) (p .0) in
     let free = ltb-true count slots (p .1) in
     let some = lt-ltb 0 slots (omega arith) in
-    let l : n ≤ min w length-limit = rw some at (leb-true n (slot-largest slots w) (q .1)) in
+    let l : n ≤ min w length-limit = rw some at (fair-bounds (slot-largest slots w) n (p .0) .1) in
     (free, omega arith)

@@ -2,7 +2,7 @@ use native.Mathlib.Omega.{arith}
 use mathlib.Core.Path.{sym, ap, _∙_}
 use lib.ListN.{length}
 use Rattle.std.proofs.shelf.Lists.{length-map}
-use Rattle.queue.proofs.Admitting.{admitted}
+use Rattle.queue.proofs.Admission.{admitted}
 use Rattle.ring.specs.Memories.{contents}
 use Rattle.ring.specs.Rings.{elements}
 use Rattle.slot.specs.Slots.{noted, slot-largest, slot-room}
@@ -15,7 +15,7 @@ put-requires c κs =
     let old = c .args .self .now in
     let me = c .admission .last .self in
     let n = length (c .args .octets .now) in
-    let room = admitted (slot-largest (old .slots) (old .width)) (slot-room (old .slots) (old .width) (held-in old) n) n (c .in-Continue-admission .ensures tt .answer) .1 in
+    let room = admitted (slot-largest (old .slots) (old .width)) n (slot-room (old .slots) (old .width) (held-in old) n) (c .in-Continue-admission .ensures tt .answer) .0 in
     let fits = room-fits (old .slots) (old .width) (length (held-in old)) n room in
     let held = sym (length-map (elements (me .notes)) (noted (contents (me .octets)))) ∙ ap length (c .admission .ensures .list) in
     let slots = c .admission .ensures .slots in
