@@ -1,0 +1,7 @@
+pub mod arguments;
+pub mod complaint;
+pub mod hexadecimal;
+pub mod lines;
+pub mod number;
+pub mod run;
+pub mod words;
