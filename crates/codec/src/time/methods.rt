@@ -36,24 +36,6 @@ impl Time {
         }
     }
 
-    pub fn day(&self) -> u16
-        ensures { λ r. ⌜ r ≡ stamp (now (self .entry)) .day ⌝ }
-    {
-        self.day
-    }
-
-    pub fn millisecond(&self) -> u32
-        ensures { λ r. ⌜ r ≡ stamp (now (self .entry)) .millisecond ⌝ }
-    {
-        self.millisecond
-    }
-
-    pub fn microsecond(&self) -> u16
-        ensures { λ r. ⌜ r ≡ stamp (now (self .entry)) .microsecond ⌝ }
-    {
-        self.microsecond
-    }
-
     // Whether this time is before the other, the same or after it: by the fields in turn.
     pub fn compare(&self, other: &Time) -> TimeOrder
         ensures { λ r. ⌜ r ≡ compared (stamp (now (self .entry))) (stamp (now (other .entry))) ⌝ }
