@@ -7,7 +7,7 @@ use super::UnbindReason;
 
 impl RequestedQuality {
     // The requested quality that an octet stands for.
-    pub fn from_octet(octet: u8) -> Option<RequestedQuality>
+    pub(super) fn from_octet(octet: u8) -> Option<RequestedQuality>
         ensures { λ r. ⌜ r ≡ requestedQualityOf octet ⌝ }
     {
         match octet {
@@ -32,7 +32,7 @@ impl RequestedQuality {
 
 impl UnbindReason {
     // The reason to unbind that an octet stands for.
-    pub fn from_octet(octet: u8) -> Option<UnbindReason>
+    pub(super) fn from_octet(octet: u8) -> Option<UnbindReason>
         ensures { λ r. ⌜ r ≡ reasonOf octet ⌝ }
     {
         match octet {

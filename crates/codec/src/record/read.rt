@@ -24,7 +24,7 @@ use crate::time::read::zero_time_at;
 
 impl RecordContent {
     // How many octets the record has.
-    pub fn record_length(&self) -> usize
+    pub(crate) fn record_length(&self) -> usize
         ensures { λ r. ⌜ r ≡ size (said (now (self .entry))) ⌝ }
     {
         match self {

@@ -26,7 +26,7 @@ impl Time {
     }
 
     // The time whose numbers are all zero.
-    pub fn zero() -> Time
+    pub(crate) fn zero() -> Time
         ensures { λ r. ⌜ stamp r ≡ zeroStamp ⌝ }
     {
         Time {
