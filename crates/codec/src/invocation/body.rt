@@ -10,6 +10,7 @@ use super::LONGEST_IDENTIFIER;
 use super::RequestedQuality;
 use super::SHORTEST_IDENTIFIER;
 use super::UnbindReason;
+use crate::blocks::block_at;
 use crate::fault::Fault;
 use crate::fields::octet_at;
 use crate::time::TIME_LENGTH;
@@ -72,7 +73,7 @@ fn identifier_at(input: &[u8], place: usize) -> Result<Identifier, Fault>
     if input.len() - start < count {
         return Err(Fault::short(input));
     }
-    Ok(Identifier::of_octets(&input[start..start + count]))
+    Ok(Identifier::of_octets(block_at(input, start, count)))
 }
 
 // An invocation that ends at a place: octets behind it are left over.
