@@ -1,7 +1,7 @@
 use queue::interface::Queue;
 use std::alloc::AllocError;
 
-// What is done with a queue whose type is not known beforehand.
+// What is done with a queue beside another one, whose types are not known beforehand.
 pub trait Player {
-    fn play<Q: Queue>(&mut self, queue: &mut Q) -> Result<(), AllocError>;
+    fn play<B: Queue, Q: Queue>(&mut self, beside: &mut B, queue: &mut Q) -> Result<(), AllocError>;
 }

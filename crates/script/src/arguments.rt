@@ -39,7 +39,9 @@ pub fn take_number(
     heap: Global,
     wanted: &str,
     most: u64,
-) -> Result<u64, Complaint> {
+) -> Result<u64, Complaint>
+    ensures { λ r. ⌜ made r (λ v. v ≤ most) ⌝ }
+{
     let word = take_word(words, heap, wanted)?;
     match number(word, most) {
         Ok(value) => Ok(value),

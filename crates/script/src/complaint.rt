@@ -32,3 +32,18 @@ pub impl fmt::Display for Complaint as ComplaintDisplay {
         }
     }
 }
+
+// A faulty line, by its number, and what is wrong with it.
+#[derive(Drop)]
+pub struct FaultyLine {
+    pub number: u64,
+    pub complaint: Complaint,
+}
+
+pub impl fmt::Display for FaultyLine as FaultyLineDisplay {
+    fn fmt<W: fmt::Write>(&self, f: &mut fmt::Formatter<W>) -> fmt::Result {
+        let number = self.number;
+        write!(f, "line {number}: ")?;
+        self.complaint.fmt(f)
+    }
+}

@@ -1,4 +1,5 @@
 ghost use mathlib.Core.Path.{_≡_};
+ghost use lib.ListN.{length};
 ghost use Rattle.script.specs.Lines.{first-line, after-line, line-text};
 use crate::run::Class;
 use crate::run::run_length;
@@ -45,5 +46,12 @@ impl<'a> Lines<'a> {
             number: self.number,
             text: &rest[0..n],
         })
+    }
+
+    // How many octets of the text are left.
+    pub fn left(&self) -> usize
+        ensures { λ r. ⌜ r ≡ length (now (now (self .entry) .rest)) ⌝ }
+    {
+        self.rest.len()
     }
 }
