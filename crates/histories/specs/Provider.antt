@@ -1,0 +1,146 @@
+-- The provider of complete online delivery: opening, acquisition, note and move; and so what each of its calls does.
+use mathlib.Core.Bool.{Bool, true, false, cond, _&&_, _||_}
+use mathlib.Core.List.{List, [], _∷_}
+use Prim.Native.Nat.{ℕ, zero, suc, _*_}
+use lib.Dec.{eqb, leb}
+use lib.ListN.{length}
+use Rattle.std.specs.declared.option.Option.{Option}
+use Rattle.std.specs.declared.option.Option.the-variants.{Some, None}
+use Rattle.codec.specs.declared.record.ProductionStatus.the-variants.{Running}
+use Rattle.codec.specs.declared.invocation.RequestedQuality.the-variants.{All}
+use Rattle.codec.specs.Times.{timely}
+use Rattle.codec.specs.Records.{Record, frame, loss, status, endOfData, encode, dataLengthAllowed}
+use Rattle.codec.specs.RecordReading.{oneRecord}
+use Rattle.codec.specs.Limits.{longestRecord}
+use Rattle.codec.specs.Invocations.{identifierLengthAllowed}
+use Rattle.histories.specs.Queues.{Queue, keep, add, drop-oldest}
+use Rattle.histories.specs.Sessions.{Settings, Phase, unbound, closed, isActive, isClosed, Selection, selected, late, Session, producing, marked, entered}
+use Rattle.histories.specs.Calls.{Call, acquire, note, move, tick, collect, invoke, argument, Outcome, says, refuses, accepted, idle, moved, passedOver, ended}
+use Rattle.histories.specs.Delivery.{send, isFilled, tickBy, collectBy}
+use Rattle.histories.specs.Invocations.{invokeBy}
+
+-- The state of a provider: its settings and the number of its opening, which never change; its session; its two queues.
+pub record State : Type 0 where
+  pub settings : Settings
+  pub opening : ℕ
+  pub session : Session
+  pub frames : Queue
+  pub transport : Queue
+
+-- The limits of the settings.
+abbrev pub mostRecords : ℕ
+mostRecords = 8
+
+abbrev pub longestLatency : ℕ
+longestLatency = 3600
+
+abbrev pub highestVersion : ℕ
+highestVersion = 255
+
+abbrev pub upTo : ℕ → ℕ → Bool
+upTo limit n = leb 1 n && leb n limit
+
+abbrev pub inRange : Settings → Bool
+inRange g =
+    upTo mostRecords (g .bufferSize)
+    && (upTo longestLatency (g .latencyLimit)
+    && (upTo highestVersion (g .version) && identifierLengthAllowed (length (g .identifier))))
+
+abbrev pub isEmpty : Queue → Bool
+isEmpty q = eqb (length (q .held)) 0
+
+-- The number of an opening: 1 a setting out of range, 2 a queue not empty, 3 a queue too narrow, 0 accepted.
+unfoldable pub openingNumber : Settings → Queue → Queue → ℕ
+openingNumber g frames transport =
+    cond (inRange g)
+    (cond (isEmpty frames && isEmpty transport)
+    (cond (leb longestRecord (frames .largest) && leb (g .bufferSize * longestRecord) (transport .largest)) 0 3)
+    2)
+    1
+
+-- A refused provider keeps no settings; the least ones stand in their place, and no call ever looks at them.
+abbrev pub leastSettings : Settings
+leastSettings = record { bufferSize = 1; latencyLimit = 1; version = 1; identifier = 0 ∷ 0 ∷ 0 ∷ [] }
+
+abbrev pub everything : Selection
+everything = record { quality = All; start = None; stop = None }
+
+-- The session that an opening begins: production running, nothing in the transfer buffer.
+abbrev pub fresh : Phase → Session
+fresh p = record { phase = p; selection = everything; endMark = false; age = 0; production = Running; buffer = [] }
+
+-- Opening always makes a provider: one that is accepted is unbound, one that is refused is closed.
+abbrev pub openedAs : ℕ → Settings → Queue → Queue → State
+openedAs zero g frames transport = record { settings = g; opening = 0; session = fresh unbound; frames = frames; transport = transport }
+openedAs (suc n) g frames transport = record { settings = leastSettings; opening = suc n; session = fresh closed; frames = frames; transport = transport }
+
+abbrev pub opened : Settings → Queue → Queue → State
+opened g frames transport = openedAs (openingNumber g frames transport) g frames transport
+
+-- What is checked of a record before it is accepted: its time, and the length of its data.
+abbrev pub isTimely : Record → Bool
+isTimely (frame q t d) = timely t
+isTimely (loss t) = timely t
+isTimely (status v) = true
+isTimely endOfData = true
+
+abbrev pub hasData : Record → Bool
+hasData (frame q t d) = dataLengthAllowed (length d)
+hasData (loss t) = true
+hasData (status v) = true
+hasData endOfData = true
+
+-- An accepted status change sets the production status.
+abbrev pub produced : Record → Session → Session
+produced (frame q t d) s = s
+produced (loss t) s = s
+produced (status v) s = producing v s
+produced endOfData s = s
+
+unfoldable pub admit : Session → Queue → Record → Outcome
+admit s frames r =
+    cond (frames .room (length (encode r)))
+    (record { answer = accepted; copied = []; session = produced r s; onFrames = add (encode r); onTransport = keep })
+    (refuses s 13)
+
+-- The record of the arguments, or the number that refuses arguments that mean none.
+abbrev pub receive : Session → Queue → ℕ → Option Record → Outcome
+receive s frames n None = refuses s n
+receive s frames n (Some r) = cond (isTimely r) (cond (hasData r) (admit s frames r) (refuses s 12)) (refuses s 11)
+
+-- Acquisition and note: one record more in the frame buffer.
+unfoldable pub receiveBy : Session → Queue → ℕ → Option Record → Outcome
+receiveBy s frames n r = cond (isClosed (s .phase)) (refuses s 4) (receive s frames n r)
+
+abbrev pub oldest : List (List ℕ) → Option Record
+oldest [] = None
+oldest (octets ∷ rest) = oneRecord octets
+
+-- A move that looks at the oldest record of the frame buffer. A frame later than stop stays there, and end of data goes out in its place.
+unfoldable pub moveRecord : Session → Option Record → Outcome
+moveRecord s None = says s idle
+moveRecord s (Some r) =
+    cond (late (s .selection) r) (says (marked (entered endOfData s)) ended)
+    (cond (selected (s .selection) r)
+    (record { answer = moved; copied = []; session = entered r s; onFrames = drop-oldest; onTransport = keep })
+    (record { answer = passedOver; copied = []; session = s; onFrames = drop-oldest; onTransport = keep }))
+
+-- The transfer buffer is sent when it is full, and what it has when the end mark is set.
+abbrev pub mustSend : Settings → Session → Bool
+mustSend g s = eqb (length (s .buffer)) (g .bufferSize) || (s .endMark && isFilled (s .buffer))
+
+unfoldable pub moveBy : State → Outcome
+moveBy s =
+    cond (isActive (s .session .phase))
+    (cond (mustSend (s .settings) (s .session)) (send (s .session) (s .transport))
+    (cond (s .session .endMark) (says (s .session) idle) (moveRecord (s .session) (oldest (s .frames .held)))))
+    (says (s .session) idle)
+
+-- What each call comes to.
+abbrev pub outcome : State → Call → Outcome
+outcome s (acquire q t d) = receiveBy (s .session) (s .frames) 10 (argument (acquire q t d))
+outcome s (note type t v) = receiveBy (s .session) (s .frames) 14 (argument (note type t v))
+outcome s move = moveBy s
+outcome s tick = tickBy (s .settings) (s .session) (s .transport)
+outcome s (collect n) = collectBy (s .session) n (s .transport .held)
+outcome s (invoke octets) = invokeBy (s .settings) (s .session) octets
