@@ -11,3 +11,5 @@ pub mod Soundness
 pub mod Ideal
 pub mod SameRun
 pub mod Possible
+pub mod Progress
+pub mod Examples

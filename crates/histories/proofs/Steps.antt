@@ -108,7 +108,7 @@ unbound-off Suspend = refl
 unbound-off VersionNotSupported = refl
 unbound-off Other = refl
 
-empty-buffer : (rs : List Record) → isFilled rs ≡ false → length rs ≡ 0
+pub empty-buffer : (rs : List Record) → isFilled rs ≡ false → length rs ≡ 0
 empty-buffer [] h = refl
 empty-buffer (r ∷ rs) h = let z : _≡_ {A = Bool} true false = h in absurd (Rattle.std.proofs.shelf.Tests.true≢false z)
 
