@@ -11,12 +11,12 @@ use Rattle.std.proofs.shelf.Lists.{length-push, length-append, take-append-drop
 use Rattle.std.proofs.shelf.Elements.{all-append, kept-by-append, all-kept-by, kept-by-passes}
 use Rattle.std.proofs.shelf.Tests.{cond-true, cond-false, cond-both, eqb-true, eqb-false, lt-ltb, le-ltb, ltb-true, ltb-false, ne-eqb}
 use Rattle.std.specs.declared.option.Option.{Option}
-use Rattle.std.specs.declared.option.Option.the-variants.{None}
+use Rattle.std.specs.declared.option.Option.the-variants.{Some, None}
 use Rattle.codec.specs.Records.{Record}
 use Rattle.histories.specs.Sessions.{isActive}
 use Rattle.histories.specs.Calls.{Call, Outcome}
 use Rattle.histories.specs.Provider.{State}
-use Rattle.histories.specs.Ledger.{Acceptance, Entry, Ledger, blank, accept, entryOf, takeOldest, passOldest, endRun, older, countTick, handOver, loseAssociation, setPending, acceptances, acceptedAs}
+use Rattle.histories.specs.Ledger.{Acceptance, Entry, Ledger, blank, accept, entry, takeOldest, passOldest, endRun, older, countTick, handOver, loseAssociation, setPending, acceptances, acceptedAs}
 use Rattle.histories.specs.Statements.{fates, bearing, acceptance, One-fate}
 use Rattle.histories.proofs.Entries.{Genuine, genuine-push, all-front, all-back, acceptances-append, acceptances-older}
 use Rattle.histories.proofs.Outcomes.{Moves, Ticks, Invokes, Does, Change}
@@ -82,7 +82,7 @@ pub accounted-blank : Accounted blank
 unfolding times
 accounted-blank = (λ n. sym (cond-false (ltb n 0) 1 0 (le-ltb n 0 (omega arith))), tt)
 
-acceptances-entered : (l : Ledger) (xs : List Acceptance) → acceptances (map (entryOf l) xs) ≡ xs
+acceptances-entered : (l : Ledger) (xs : List Acceptance) → acceptances (map (λ (a : Acceptance). entry l (Some a)) xs) ≡ xs
 acceptances-entered l [] = refl
 acceptances-entered l (x ∷ xs) = ap (λ (y : List Acceptance). x ∷ y) (acceptances-entered l xs)
 

@@ -12,8 +12,8 @@ use Rattle.std.proofs.shelf.Elements.{all-append, all-push, all-weaker, kept-by
 use Rattle.std.specs.declared.option.Option.the-variants.{Some, None}
 use Rattle.codec.specs.Records.{Record}
 use Rattle.histories.specs.Sessions.{Phase, unbound, active, isActive, Selection, late, selected}
-use Rattle.histories.specs.Ledger.{Acceptance, Entry, Ledger, blank, accept, entry, entryOf, takeOldest, passOldest, endRun, older, countTick, handOver, beginRun, loseAssociation, setPhase, setPending, setPassed, setUntaken, setPdus, acceptances, ownAcceptances}
-use Rattle.histories.specs.Statements.{InOrder, due, Complete}
+use Rattle.histories.specs.Ledger.{Acceptance, Entry, Ledger, blank, accept, entry, takeOldest, passOldest, endRun, older, countTick, handOver, beginRun, loseAssociation, setPhase, setPending, setPassed, setUntaken, setPdus, acceptances, ownAcceptances}
+use Rattle.histories.specs.Statements.{RisesFrom, due, Complete}
 use Rattle.histories.proofs.Entries.{Line, line-cut, line-push, Genuine, rises-front, all-front, all-back, acceptances-append, own-append, acceptances-older, own-older, Upto, own-none, own-one, isSelected, InTime, LateFirst, late-first-push, due-late, due-append}
 
 -- what has entered the transfer buffer and was not discarded
@@ -57,13 +57,13 @@ lawful-accept r l k =
 
 -- the oldest untaken record, made pending or passed over
 abbrev pub tookOldest : Acceptance → List Acceptance → Ledger → Ledger
-tookOldest a more l = setUntaken more (setPending (l .pending ++ entryOf l a ∷ []) l)
+tookOldest a more l = setUntaken more (setPending (l .pending ++ entry l (Some a) ∷ []) l)
 
 abbrev pub passedOldest : Acceptance → List Acceptance → Ledger → Ledger
 passedOldest a more l = setUntaken more (setPassed (l .passed ++ a ∷ []) l)
 
 pub takes-oldest : (l : Ledger) (a : Acceptance) (more : List Acceptance) → l .untaken ≡ a ∷ more → takeOldest l ≡ tookOldest a more l
-takes-oldest l a more u = ap (λ (x : List Acceptance). setUntaken (drop 1 x) (setPending (l .pending ++ map (entryOf l) (take 1 x)) l)) u
+takes-oldest l a more u = ap (λ (x : List Acceptance). setUntaken (drop 1 x) (setPending (l .pending ++ map (λ (a : Acceptance). entry l (Some a)) (take 1 x)) l)) u
 
 pub passes-oldest : (l : Ledger) (a : Acceptance) (more : List Acceptance) → l .untaken ≡ a ∷ more → passOldest l ≡ passedOldest a more l
 passes-oldest l a more u = ap (λ (x : List Acceptance). setUntaken (drop 1 x) (setPassed (l .passed ++ take 1 x) l)) u
@@ -77,7 +77,7 @@ module _ (l : Ledger) (a : Acceptance) (more : List Acceptance) (u : l .untaken 
 
   pub lawful-take : l .endMark ≡ false → late (l .run .selection) (a .value) ≡ false → selected (l .run .selection) (a .value) ≡ true → Lawful (tookOldest a more l)
   lawful-take unmarked early want =
-      let f : Entry = entryOf l a in
+      let f : Entry = entry l (Some a) in
       let g : l .handed ++ (l .pending ++ f ∷ []) ≡ entries l ++ f ∷ [] = sym (append-assoc (l .handed) (l .pending) (f ∷ [])) in
       record {
         line = subst (λ (x : List Acceptance). Line (l .received) x)
@@ -203,7 +203,7 @@ lawful-lose l k =
 
 -- What follows.
 
-pub in-order : (l : Ledger) → Lawful l → InOrder (acceptances (l .handed))
+pub in-order : (l : Ledger) → Lawful l → RisesFrom 0 (acceptances (l .handed))
 in-order l k = rises-front 0 (length (l .received)) (acceptances (l .handed)) (acceptances (l .pending) ++ l .untaken) (handed-line l k .0)
 
 pub genuine : (l : Ledger) → Lawful l → All (Genuine (l .received)) (acceptances (l .handed))

@@ -8,6 +8,7 @@ use lib.Dec.{eqb, leb, ltb}
 use lib.ListN.{length}
 use Rattle.std.proofs.shelf.Tests.{cond-both, and-parts, or-parts, both-ways, eqb-false, leb-true, ltb-true}
 use Rattle.std.proofs.shelf.Lists.{take-all, drop-all}
+use Rattle.std.specs.shelf.Text.{sameBytes}
 use Rattle.std.specs.declared.option.Option.{Option}
 use Rattle.std.specs.declared.option.Option.the-variants.{Some, None}
 use Rattle.std.specs.declared.result.Result.{Result}
@@ -26,7 +27,7 @@ use Rattle.histories.specs.Queues.{Queue, keep, add, drop-oldest}
 use Rattle.histories.specs.Sessions.{Settings, Phase, unbound, ready, active, closed, isActive, isClosed, Selection, emptySpan, selected, late, Session, toPhase, aged, holding, marked, selecting, entered}
 use Rattle.histories.specs.Calls.{Call, acquire, note, move, tick, collect, invoke, argument, asFrame, asStatus, asNote, Answer, accepted, refused, idle, waiting, sent, moved, passedOver, ended, quiet, collected, startDone, stopDone, bindDone, unbindDone, abortDone, undecodable, protocolError, Outcome, says, refuses}
 use Rattle.histories.specs.Delivery.{transferPdu, sendFirst, send, isFilled, tickBy, collectBy}
-use Rattle.histories.specs.Invocations.{Cell, to, protocol-error, refusal, afterUnbind, table, isAccepted, lost, discard, same, bindBy, isHalted, startBy, selectionOf, performed, byCell, byFault, byReading, invokeBy}
+use Rattle.histories.specs.Invocations.{Cell, to, protocol-error, refusal, afterUnbind, table, isAccepted, lost, discard, bindBy, isHalted, startBy, selectionOf, performed, byCell, byFault, byReading, invokeBy}
 use Rattle.histories.specs.Provider.{State, isTimely, hasData, produced, admit, receive, receiveBy, oldest, moveRecord, mustSend, moveBy, outcome}
 use Rattle.histories.specs.Ledger.{Event, Ledger, accept, takeOldest, passOldest, endRun, countTick, handOver, discardPending, beginRun, setPhase, setPdus, loseAssociation, loseIfBound, enterPhase, followReading, performRequest, onCall, onAnswer, acceptArgument, step}
 
@@ -232,7 +233,7 @@ module _ (s : State) where
     by-table unbound e (start id q from until) r = no′ 26
     by-table unbound e (stop id) r = no′ 26
     by-table unbound e (bind id version identifier) r =
-        cond-both (same identifier (s .settings .identifier)) _ _ Comes-to
+        cond-both (sameBytes identifier (s .settings .identifier)) _ _ Comes-to
         (λ _. cond-both (leb (s .settings .version) version) _ _ Comes-to (λ _. (setPhase ready, binds id version identifier r e)) (λ _. no′ 23)) (λ _. no′ 22)
     by-table unbound e (unbind id reason) r = no′ 26
     by-table unbound e (abort diagnostic) r = no′ 26

@@ -16,7 +16,7 @@ use Rattle.histories.specs.Calls.{Call, tick, Answer}
 use Rattle.histories.specs.Provider.{State, upTo, mostRecords, longestLatency, inRange, isEmpty, openingNumber, openedAs, opened, outcome}
 use Rattle.histories.specs.Ledger.{Event, Entry, Ledger, blank, step, ledger}
 use Rattle.histories.specs.Histories.{Step, History, opens, goes-on}
-use Rattle.histories.specs.Statements.{recordsOf, Sound, Punctual, Discards-rightly, Claim, Histories-are-sound, Steps-continue}
+use Rattle.histories.specs.Statements.{recordsOf, Sound, Punctual, Discards-rightly, Claim, Always, Each-call, Steps-continue}
 use Rattle.histories.proofs.LedgerLaws.{lawful-blank, complete}
 use Rattle.histories.proofs.Invariant.{Inv, led, delivered}
 use Rattle.histories.proofs.Outcomes.{does, ticks, books, books-tick, event}
@@ -101,8 +101,11 @@ claim {es} {s} {s′} e h st = record {
   discards = discards-at (ledger es) s s′ e (history-inv h) st;
 }
 
-pub histories-are-sound : Histories-are-sound
-histories-are-sound es s h = (sound h, λ e s′ st. claim e h st)
+pub always-sound : Always Sound
+always-sound es s h = sound h
+
+pub each-claim : Each-call Claim
+each-claim es s s′ e h st = claim e h st
 
 -- a call that answers and does what it comes to goes on with any history
 pub steps-continue : Steps-continue

@@ -25,7 +25,7 @@ use Rattle.histories.specs.Calls.{Call, Answer, refused, idle, waiting, moved,
 use Rattle.histories.specs.Delivery.{transferPdu, isFilled}
 use Rattle.histories.specs.Invocations.{afterUnbind, isAccepted, lost, selectionOf}
 use Rattle.histories.specs.Provider.{State, produced, oldest}
-use Rattle.histories.specs.Ledger.{Acceptance, Entry, Ledger, accept, entry, entryOf, takeOldest, passOldest, endRun, older, countTick, handOver, beginRun, loseAssociation, setPhase, setPending, setPdus, recordOf}
+use Rattle.histories.specs.Ledger.{Acceptance, Entry, Ledger, accept, entry, takeOldest, passOldest, endRun, older, countTick, handOver, beginRun, loseAssociation, setPhase, setPending, setPdus, recordOf}
 use Rattle.histories.specs.Statements.{recordsOf, octetsOf}
 use Rattle.codec.proofs.RecordsJoined.{records-written}
 use Rattle.codec.proofs.OneRecord.{one-record-written}
@@ -260,7 +260,7 @@ module _ (l : Ledger) (s : State) (i : Inv l s) where
           mark = i .mark;
           selection = i .selection;
           framed = dropped frames f;
-          buffered = enter (s .settings) (s .session .buffer) (s .session .age) (l .pending) (entryOf l a) (i .buffered) refl (well .0, tt) (k .space);
+          buffered = enter (s .settings) (s .session .buffer) (s .session .age) (l .pending) (entry l (Some a)) (i .buffered) refl (well .0, tt) (k .space);
           carried = i .carried;
           fitting = i .fitting;
           lawful = lawful-take l a more u (i .lawful) unmarked (early false h) (wanted true w);

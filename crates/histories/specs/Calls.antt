@@ -1,14 +1,8 @@
 -- The calls of a provider, their answers, and what a call comes to.
 use mathlib.Core.List.{List, []}
 use Prim.Native.Nat.{ℕ, zero, suc}
-use Rattle.std.specs.declared.option.Option.{Option}
-use Rattle.std.specs.declared.option.Option.the-variants.{Some, None}
-use Rattle.codec.specs.declared.fault.Fault.{Fault}
-use Rattle.codec.specs.declared.record.Quality.{Quality}
-use Rattle.codec.specs.declared.record.ProductionStatus.{ProductionStatus}
-use Rattle.codec.specs.Times.{Stamp}
-use Rattle.codec.specs.Records.{Record, frame, loss, status}
-use Rattle.codec.specs.RecordReading.{qualityOf, statusOf}
+use Rattle.std.specs.{declared.option.Option.Option, declared.option.Option.the-variants.Some, declared.option.Option.the-variants.None}
+use Rattle.codec.specs.{declared.fault.Fault.Fault, declared.record.Quality.Quality, declared.record.ProductionStatus.ProductionStatus, Times.Stamp, Records.Record, Records.frame, Records.loss, Records.status, RecordReading.qualityOf, RecordReading.statusOf}
 use Rattle.histories.specs.Queues.{Effect, keep}
 use Rattle.histories.specs.Sessions.{Session}
 

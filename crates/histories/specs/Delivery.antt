@@ -4,8 +4,8 @@ use mathlib.Core.List.{List, [], _∷_}
 use Prim.Native.Nat.{ℕ, suc}
 use lib.Dec.{leb, ltb}
 use lib.ListN.{length, take, drop}
-use Rattle.std.specs.shelf.Lists.{joined}
-use Rattle.codec.specs.Records.{Record, encode}
+use Rattle.std.specs.{shelf.Lists.joined}
+use Rattle.codec.specs.{Records.Record, Records.encode}
 use Rattle.histories.specs.Queues.{Queue, keep, add, drop-oldest}
 use Rattle.histories.specs.Sessions.{Settings, Session, isActive, aged, holding}
 use Rattle.histories.specs.Calls.{Outcome, says, refuses, waiting, sent, quiet, collected}

@@ -5,15 +5,8 @@ use mathlib.Core.List.{List, [], _∷_, _++_, map}
 use Prim.Native.Nat.{ℕ, _*_}
 use lib.Dec.{leb}
 use lib.ListN.{drop}
-use Rattle.std.specs.declared.option.Option.{Option}
-use Rattle.std.specs.declared.option.Option.the-variants.{Some, None}
-use Rattle.codec.specs.declared.record.Quality.{Quality}
-use Rattle.codec.specs.declared.record.Quality.the-variants.{Good, Erred}
-use Rattle.codec.specs.declared.invocation.RequestedQuality.the-variants.{GoodOnly, All}
-use Rattle.codec.specs.Limits.{longestRecord}
-use Rattle.codec.specs.Times.{Stamp}
-use Rattle.codec.specs.Records.{Record, frame, endOfData, encode, qualityOctet}
-use Rattle.codec.specs.Invocations.{start, stop, bind, layout}
+use Rattle.std.specs.{declared.option.Option.Option, declared.option.Option.the-variants.Some, declared.option.Option.the-variants.None}
+use Rattle.codec.specs.{declared.record.Quality.Quality, declared.record.Quality.the-variants.Good, declared.record.Quality.the-variants.Erred, declared.invocation.RequestedQuality.the-variants.GoodOnly, declared.invocation.RequestedQuality.the-variants.All, Limits.longestRecord, Times.Stamp, Records.Record, Records.frame, Records.endOfData, Records.encode, Records.qualityOctet, Invocations.start, Invocations.stop, Invocations.bind, Invocations.layout}
 use Rattle.histories.specs.Queues.{Queue, Effect, keep, add, drop-oldest}
 use Rattle.histories.specs.Sessions.{Settings, unbound}
 use Rattle.histories.specs.Calls.{Call, acquire, move, tick, collect, invoke, Outcome, Answer, accepted, idle, quiet, sent, moved, passedOver, ended, collected, startDone, stopDone, bindDone, protocolError}

@@ -1,23 +1,11 @@
 -- What an invocation does: phase and operation together decide, by one table.
-use mathlib.Core.Bool.{Bool, true, false, cond, _&&_}
-use mathlib.Core.List.{List, [], _∷_}
+use mathlib.Core.Bool.{Bool, true, false, cond}
+use mathlib.Core.List.{List, []}
 use Prim.Native.Nat.{ℕ}
-use lib.Dec.{eqb, leb}
+use lib.Dec.{leb}
 use lib.ListN.{length}
-use Rattle.std.specs.declared.option.Option.{Option}
-use Rattle.std.specs.declared.result.Result.{Result}
-use Rattle.std.specs.declared.result.Result.the-variants.{Ok, Err}
-use Rattle.std.specs.shelf.Lists.{kept-by}
-use Rattle.codec.specs.declared.fault.Fault.{Fault}
-use Rattle.codec.specs.declared.record.ProductionStatus.{ProductionStatus}
-use Rattle.codec.specs.declared.record.ProductionStatus.the-variants.{Running, Interrupted, Halted}
-use Rattle.codec.specs.declared.invocation.RequestedQuality.{RequestedQuality}
-use Rattle.codec.specs.declared.invocation.UnbindReason.{UnbindReason}
-use Rattle.codec.specs.declared.invocation.UnbindReason.the-variants.{End, Suspend, VersionNotSupported, Other}
-use Rattle.codec.specs.Times.{Stamp}
-use Rattle.codec.specs.Records.{Record, frame, loss, status, endOfData}
-use Rattle.codec.specs.Invocations.{Request, start, stop, bind, unbind, abort}
-use Rattle.codec.specs.InvocationReading.{requestIn}
+use Rattle.std.specs.{declared.option.Option.Option, declared.result.Result.Result, declared.result.Result.the-variants.Ok, declared.result.Result.the-variants.Err, shelf.Lists.kept-by, shelf.Text.sameBytes}
+use Rattle.codec.specs.{declared.fault.Fault.Fault, declared.record.ProductionStatus.ProductionStatus, declared.record.ProductionStatus.the-variants.Running, declared.record.ProductionStatus.the-variants.Interrupted, declared.record.ProductionStatus.the-variants.Halted, declared.invocation.RequestedQuality.RequestedQuality, declared.invocation.UnbindReason.UnbindReason, declared.invocation.UnbindReason.the-variants.End, declared.invocation.UnbindReason.the-variants.Suspend, declared.invocation.UnbindReason.the-variants.VersionNotSupported, declared.invocation.UnbindReason.the-variants.Other, Times.Stamp, Records.Record, Records.frame, Records.loss, Records.status, Records.endOfData, Invocations.Request, Invocations.start, Invocations.stop, Invocations.bind, Invocations.unbind, Invocations.abort, InvocationReading.requestIn}
 use Rattle.histories.specs.Sessions.{Settings, Phase, unbound, ready, active, closed, Selection, emptySpan, Session, toPhase, holding, selecting}
 use Rattle.histories.specs.Calls.{Answer, startDone, stopDone, bindDone, unbindDone, abortDone, undecodable, protocolError, Outcome, says, refuses}
 
@@ -68,16 +56,10 @@ lost s = length (kept-by isAccepted (s .buffer))
 abbrev pub discard : Session → (ℕ → Answer) → Outcome
 discard s answer = says (toPhase unbound (holding [] s)) (answer (lost s))
 
-abbrev pub same : List ℕ → List ℕ → Bool
-same [] [] = true
-same [] (y ∷ ys) = false
-same (x ∷ xs) [] = false
-same (x ∷ xs) (y ∷ ys) = eqb x y && same xs ys
-
 -- A BIND brings the provider's identifier, and its version or a higher one.
 unfoldable pub bindBy : Settings → Session → Phase → ℕ → ℕ → List ℕ → Outcome
 bindBy g s p id version identifier =
-    cond (same identifier (g .identifier))
+    cond (sameBytes identifier (g .identifier))
     (cond (leb (g .version) version) (says (toPhase p s) (bindDone id (g .version))) (refuses s 23))
     (refuses s 22)
 

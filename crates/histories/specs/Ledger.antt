@@ -4,14 +4,8 @@ use mathlib.Core.List.{List, [], _∷_, _++_, map}
 use Prim.Native.Nat.{ℕ, zero, suc}
 use lib.Dec.{eqb}
 use lib.ListN.{length, take, drop}
-use Rattle.std.specs.declared.option.Option.{Option}
-use Rattle.std.specs.declared.option.Option.the-variants.{Some, None}
-use Rattle.std.specs.declared.result.Result.{Result}
-use Rattle.std.specs.declared.result.Result.the-variants.{Ok, Err}
-use Rattle.codec.specs.declared.fault.Fault.{Fault}
-use Rattle.codec.specs.Records.{Record, endOfData}
-use Rattle.codec.specs.Invocations.{Request, start, stop, bind, unbind, abort}
-use Rattle.codec.specs.InvocationReading.{requestIn}
+use Rattle.std.specs.{declared.option.Option.Option, declared.option.Option.the-variants.Some, declared.option.Option.the-variants.None, declared.result.Result.Result, declared.result.Result.the-variants.Ok, declared.result.Result.the-variants.Err}
+use Rattle.codec.specs.{declared.fault.Fault.Fault, Records.Record, Records.endOfData, Invocations.Request, Invocations.start, Invocations.stop, Invocations.bind, Invocations.unbind, Invocations.abort, InvocationReading.requestIn}
 use Rattle.histories.specs.Sessions.{Phase, unbound, ready, active, closed, isActive, Selection}
 use Rattle.histories.specs.Calls.{Call, acquire, note, move, tick, collect, invoke, argument, Answer, accepted, refused, idle, waiting, sent, moved, passedOver, ended, quiet, collected, startDone, stopDone, bindDone, unbindDone, abortDone, undecodable, protocolError}
 use Rattle.histories.specs.Invocations.{Cell, to, protocol-error, refusal, table, selectionOf}
@@ -104,12 +98,9 @@ acceptArgument (Some r) l = accept r l
 abbrev pub entry : Ledger → Option Acceptance → Entry
 entry l content = record { content = content; run = l .run .number; ticks = 0 }
 
-abbrev pub entryOf : Ledger → Acceptance → Entry
-entryOf l a = entry l (Some a)
-
 -- The oldest untaken record becomes pending.
 abbrev pub takeOldest : Ledger → Ledger
-takeOldest l = setUntaken (drop 1 (l .untaken)) (setPending (l .pending ++ map (entryOf l) (take 1 (l .untaken))) l)
+takeOldest l = setUntaken (drop 1 (l .untaken)) (setPending (l .pending ++ map (λ (a : Acceptance). entry l (Some a)) (take 1 (l .untaken))) l)
 
 -- The oldest untaken record is passed over.
 abbrev pub passOldest : Ledger → Ledger

@@ -4,15 +4,8 @@ use mathlib.Core.List.{List, [], _∷_}
 use Prim.Native.Nat.{ℕ, zero, suc, _*_}
 use lib.Dec.{eqb, leb}
 use lib.ListN.{length}
-use Rattle.std.specs.declared.option.Option.{Option}
-use Rattle.std.specs.declared.option.Option.the-variants.{Some, None}
-use Rattle.codec.specs.declared.record.ProductionStatus.the-variants.{Running}
-use Rattle.codec.specs.declared.invocation.RequestedQuality.the-variants.{All}
-use Rattle.codec.specs.Times.{timely}
-use Rattle.codec.specs.Records.{Record, frame, loss, status, endOfData, encode, dataLengthAllowed}
-use Rattle.codec.specs.RecordReading.{oneRecord}
-use Rattle.codec.specs.Limits.{longestRecord}
-use Rattle.codec.specs.Invocations.{identifierLengthAllowed}
+use Rattle.std.specs.{declared.option.Option.Option, declared.option.Option.the-variants.Some, declared.option.Option.the-variants.None}
+use Rattle.codec.specs.{declared.record.ProductionStatus.the-variants.Running, declared.invocation.RequestedQuality.the-variants.All, Times.timely, Records.Record, Records.frame, Records.loss, Records.status, Records.endOfData, Records.encode, Records.dataLengthAllowed, RecordReading.oneRecord, Limits.longestRecord, Invocations.identifierLengthAllowed}
 use Rattle.histories.specs.Queues.{Queue, keep, add, drop-oldest}
 use Rattle.histories.specs.Sessions.{Settings, Phase, unbound, closed, isActive, isClosed, Selection, selected, late, Session, producing, marked, entered}
 use Rattle.histories.specs.Calls.{Call, acquire, note, move, tick, collect, invoke, argument, Outcome, says, refuses, accepted, idle, moved, passedOver, ended}

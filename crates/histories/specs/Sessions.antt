@@ -2,17 +2,8 @@
 use mathlib.Core.Bool.{Bool, true, false, _&&_, not}
 use mathlib.Core.List.{List, [], _∷_, _++_}
 use Prim.Native.Nat.{ℕ}
-use Rattle.std.specs.declared.option.Option.{Option}
-use Rattle.std.specs.declared.option.Option.the-variants.{Some, None}
-use Rattle.codec.specs.declared.time.TimeOrder.{TimeOrder}
-use Rattle.codec.specs.declared.time.TimeOrder.the-variants.{Before, Same, After}
-use Rattle.codec.specs.declared.record.Quality.{Quality}
-use Rattle.codec.specs.declared.record.Quality.the-variants.{Good, Erred, Undetermined}
-use Rattle.codec.specs.declared.record.ProductionStatus.{ProductionStatus}
-use Rattle.codec.specs.declared.invocation.RequestedQuality.{RequestedQuality}
-use Rattle.codec.specs.declared.invocation.RequestedQuality.the-variants.{GoodOnly, ErredOnly, All}
-use Rattle.codec.specs.Times.{Stamp, compared}
-use Rattle.codec.specs.Records.{Record, frame, loss, status, endOfData}
+use Rattle.std.specs.{declared.option.Option.Option, declared.option.Option.the-variants.Some, declared.option.Option.the-variants.None}
+use Rattle.codec.specs.{declared.time.TimeOrder.TimeOrder, declared.time.TimeOrder.the-variants.Before, declared.time.TimeOrder.the-variants.Same, declared.time.TimeOrder.the-variants.After, declared.record.Quality.Quality, declared.record.Quality.the-variants.Good, declared.record.Quality.the-variants.Erred, declared.record.Quality.the-variants.Undetermined, declared.record.ProductionStatus.ProductionStatus, declared.invocation.RequestedQuality.RequestedQuality, declared.invocation.RequestedQuality.the-variants.GoodOnly, declared.invocation.RequestedQuality.the-variants.ErredOnly, declared.invocation.RequestedQuality.the-variants.All, Times.Stamp, Times.compared, Records.Record, Records.frame, Records.loss, Records.status, Records.endOfData}
 
 -- What a provider is opened with: how many records make a full transfer buffer (N), how many active ticks a record may wait there (L), its version, and the identifier that a BIND has to bring.
 pub record Settings : Type 0 where

@@ -6,16 +6,8 @@ use mathlib.Core.List.{List, [], _∷_, _++_, map}
 use Prim.Native.Nat.{ℕ, suc, _≤_, _<_}
 use lib.Dec.{eqb}
 use lib.ListN.{length}
-use Rattle.std.specs.shelf.Lists.{All, kept-by}
-use Rattle.std.specs.declared.option.Option.{Option}
-use Rattle.std.specs.declared.option.Option.the-variants.{Some, None}
-use Rattle.std.specs.declared.result.Result.{Result}
-use Rattle.std.specs.declared.result.Result.the-variants.{Ok, Err}
-use Rattle.codec.specs.declared.fault.Fault.{Fault}
-use Rattle.codec.specs.Records.{Record, encode}
-use Rattle.codec.specs.RecordReading.{recordsIn}
-use Rattle.codec.specs.Invocations.{Request, abort}
-use Rattle.codec.specs.InvocationReading.{requestIn}
+use Rattle.std.specs.{shelf.Lists.All, shelf.Lists.kept-by, declared.option.Option.Option, declared.option.Option.the-variants.Some, declared.option.Option.the-variants.None, declared.result.Result.Result, declared.result.Result.the-variants.Ok, declared.result.Result.the-variants.Err}
+use Rattle.codec.specs.{declared.fault.Fault.Fault, Records.Record, Records.encode, RecordReading.recordsIn, Invocations.Request, Invocations.abort, InvocationReading.requestIn}
 use Rattle.histories.specs.Sessions.{Phase, ready, active, Selection, selected, late}
 use Rattle.histories.specs.Calls.{Call, tick, invoke, Answer, accepted, refused, idle, waiting, sent, moved, passedOver, ended, quiet, collected, startDone, stopDone, bindDone, unbindDone, abortDone, undecodable, protocolError}
 use Rattle.histories.specs.Invocations.{table, protocol-error}
@@ -33,19 +25,16 @@ abbrev pub recordsOf : List (List ℕ) → Option (List Record)
 recordsOf [] = Some []
 recordsOf (pdu ∷ pdus) = joinReadings (recordsIn pdu) (recordsOf pdus)
 
--- Each once, and in order of acceptance: the numbers rise.
+-- Each once, and in order of acceptance: the numbers rise, from n on.
 abbrev pub RisesFrom : ℕ → List Acceptance → Type 0
 RisesFrom n [] = Unit {0}
 RisesFrom n (a ∷ as′) = (n ≤ a .number) × RisesFrom (suc (a .number)) as′
-
-abbrev pub InOrder : List Acceptance → Type 0
-InOrder as′ = RisesFrom 0 as′
 
 -- First statement. On the way to the collector nothing is lost, doubled, reordered or made up: the PDUs collected and those that wait read as the records handed over, in order; those among them that were accepted are the records accepted under their numbers, each once, in order of acceptance. And the transfer buffer's records are those pending.
 pub record Delivered (l : Ledger) (s : State) : Type 0 where
   pub read : recordsOf (l .pdus ++ s .transport .held) ≡ Some (map recordOf (l .handed))
   pub genuine : All (λ (a : Acceptance). acceptedAs (l .received) (a .number) ≡ Some (a .value)) (acceptances (l .handed))
-  pub in-order : InOrder (acceptances (l .handed))
+  pub in-order : RisesFrom 0 (acceptances (l .handed))
   pub buffer : s .session .buffer ≡ map recordOf (l .pending)
 
 -- The due list of what a run was offered: cut before the first frame later than stop, unselected frames left out.
@@ -136,11 +125,12 @@ pub record Claim (l : Ledger) (s : State) (e : Event) (s′ : State) : Type 0 wh
   pub punctual : Punctual s e (step l e)
   pub discards : Discards-rightly l s e
 
--- Every history is sound, and so is every call that goes on with it.
-abbrev pub Histories-are-sound : Type 0
-Histories-are-sound =
-    (es : List Event) (s : State) → History es s
-    → Sound (ledger es) s × ((e : Event) (s′ : State) → Step s e s′ → Claim (ledger es) s e s′)
+-- What holds in every history of its ledger and its state; and of every call that goes on with a history.
+abbrev pub Always : (Ledger → State → Type 0) → Type 0
+Always P = (es : List Event) (s : State) → History es s → P (ledger es) s
+
+abbrev pub Each-call : (Ledger → State → Event → State → Type 0) → Type 0
+Each-call P = (es : List Event) (s s′ : State) (e : Event) → History es s → Step s e s′ → P (ledger es) s e s′
 
 -- For the contract of one call: whatever history led to s goes on by the event e to s′, and the claim holds.
 abbrev pub Continues : State → Event → State → Type 0

@@ -1,8 +1,6 @@
-ghost use Rattle.histories.specs.Statements.{Histories-are-sound, Steps-continue};
+//! What the provider does, what its ledger keeps, and what holds in every history: definitions in specs/,
+//! and theorems about them, each in the contract of a function here.
 
-/// In every history after every call the statements hold.
-pub fn histories_are_sound() -> u8
-    ensures { λ _. ⌜ Histories-are-sound ⌝ }
-{
-    0
-}
+pub mod claims;
+pub mod liveness;
+pub mod worked;
