@@ -28,7 +28,7 @@ use Rattle.histories.specs.Sessions.{Settings, Phase, unbound, ready, active, 
 use Rattle.histories.specs.Calls.{Call, acquire, note, move, tick, collect, invoke, argument, asFrame, asStatus, asNote, Answer, accepted, refused, idle, waiting, sent, moved, passedOver, ended, quiet, collected, startDone, stopDone, bindDone, unbindDone, abortDone, undecodable, protocolError, Outcome, says, refuses}
 use Rattle.histories.specs.Delivery.{transferPdu, sendFirst, send, isFilled, tickBy, collectBy}
 use Rattle.histories.specs.Invocations.{Cell, to, protocol-error, refusal, afterUnbind, table, isAccepted, lost, discard, bindBy, isHalted, startBy, selectionOf, performed, byCell, byFault, byReading, invokeBy}
-use Rattle.histories.specs.Provider.{State, isTimely, hasData, produced, admit, receive, receiveBy, oldest, moveRecord, mustSend, moveBy, outcome}
+use Rattle.histories.specs.Provider.{State, isTimely, hasData, produced, admit, receive, receiveBy, oldest, ending, taking, passing, moveRecord, mustSend, moveBy, outcome}
 use Rattle.histories.specs.Ledger.{Event, Ledger, accept, takeOldest, passOldest, endRun, countTick, handOver, discardPending, beginRun, setPhase, setPdus, loseAssociation, loseIfBound, enterPhase, followReading, performRequest, onCall, onAnswer, acceptArgument, step}
 
 abbrev pub admitting : Session → Record → Outcome
@@ -37,9 +37,6 @@ admitting s r = record { answer = accepted; copied = []; session = produced r s;
 -- the whole transfer buffer is sent
 abbrev pub sending : Session → Outcome
 sending s = record { answer = sent; copied = []; session = holding [] s; onFrames = keep; onTransport = add (transferPdu (s .buffer)) }
-
-abbrev pub dropping : Session → Answer → Outcome
-dropping s a = record { answer = a; copied = []; session = s; onFrames = drop-oldest; onTransport = keep }
 
 abbrev pub collecting : Session → List ℕ → Outcome
 collecting s pdu = record { answer = collected (length pdu); copied = pdu; session = s; onFrames = keep; onTransport = drop-oldest }
@@ -71,9 +68,9 @@ pub data Moves (s : State) : Outcome → Change → Type 0 where
   no-record : oldest (s .frames .held) ≡ None → Moves s (says (s .session) idle) unchanged
   sends : mustSend (s .settings) (s .session) ≡ true → Moves s (sending (s .session)) handOver
   waits : mustSend (s .settings) (s .session) ≡ true → s .transport .room (length (transferPdu (s .session .buffer))) ≡ false → Moves s (says (s .session) waiting) unchanged
-  ends : (r : Record) → Looks s r → late (s .session .selection) r ≡ true → Moves s (says (marked (entered endOfData (s .session))) ended) endRun
-  takes : (r : Record) → Looks s r → late (s .session .selection) r ≡ false → selected (s .session .selection) r ≡ true → Moves s (dropping (entered r (s .session)) moved) takeOldest
-  passes : (r : Record) → Looks s r → late (s .session .selection) r ≡ false → selected (s .session .selection) r ≡ false → Moves s (dropping (s .session) passedOver) passOldest
+  ends : (r : Record) → Looks s r → late (s .session .selection) r ≡ true → Moves s (ending (s .session)) endRun
+  takes : (r : Record) → Looks s r → late (s .session .selection) r ≡ false → selected (s .session .selection) r ≡ true → Moves s (taking (s .session) r) takeOldest
+  passes : (r : Record) → Looks s r → late (s .session .selection) r ≡ false → selected (s .session .selection) r ≡ false → Moves s (passing (s .session)) passOldest
 
 -- a tick that finds records to age
 pub record Ages (s : State) : Type 0 where
@@ -94,11 +91,11 @@ pub data Invokes (s : State) (octets : List ℕ) : Outcome → Change → Type 0
   refused-by : (n : ℕ) → Invokes s octets (refuses (s .session) n) unchanged
   starts : (id : ℕ) (q : RequestedQuality) (from until : Option Stamp) → requestIn octets ≡ Ok (start id q from until) → s .session .phase ≡ ready
       → Invokes s octets (says (toPhase active (selecting (selectionOf q from until) (s .session))) (startDone id)) (λ l. setPhase active (beginRun (selectionOf q from until) l))
-  stops : (id : ℕ) → requestIn octets ≡ Ok (stop id) → s .session .phase ≡ active → Invokes s octets (says (toPhase ready (s .session)) (stopDone id)) (setPhase ready)
+  stops : (id : ℕ) → requestIn octets ≡ Ok (stop id) → s .session .phase ≡ active → Invokes s octets (performed (s .settings) (s .session) ready (stop id)) (setPhase ready)
   binds : (id version : ℕ) (identifier : List ℕ) → requestIn octets ≡ Ok (bind id version identifier) → s .session .phase ≡ unbound
       → Invokes s octets (says (toPhase ready (s .session)) (bindDone id (s .settings .version))) (setPhase ready)
   unbinds : (id : ℕ) (reason : UnbindReason) → requestIn octets ≡ Ok (unbind id reason) → s .session .phase ≡ ready
-      → Invokes s octets (says (toPhase (afterUnbind reason) (s .session)) (unbindDone id)) (setPhase (afterUnbind reason))
+      → Invokes s octets (performed (s .settings) (s .session) (afterUnbind reason) (unbind id reason)) (setPhase (afterUnbind reason))
   aborts : (diagnostic : ℕ) → requestIn octets ≡ Ok (abort diagnostic) → Bound (s .session .phase) → Invokes s octets (discard (s .session) abortDone) loseAssociation
   errs : (request : Request) → requestIn octets ≡ Ok request → table (s .session .phase) request ≡ protocol-error → Invokes s octets (discard (s .session) protocolError) loseAssociation
   misreads : (fault : Fault) → requestIn octets ≡ Err fault → Bound (s .session .phase) → Invokes s octets (discard (s .session) (undecodable fault)) loseAssociation
@@ -160,7 +157,7 @@ note-accepted (suc (suc type)) t v r e = let z : _≡_ {A = ℕ} 0 1 = cc in abs
 module _ (s : State) where
   receives : (c : Call) (n : ℕ) → Plain c → ((r : Record) → argument c ≡ Some r → isAccepted r ≡ true) → Comes s c (receiveBy (s .session) (s .frames) n (argument c))
   unfolding receiveBy admit
-  receives c n plain ok = cond-both (isClosed (s .session .phase)) _ _ (Comes s c) (λ _. no′ 4) (λ _. go (argument c) refl)
+  receives c n plain ok = cond-both _ _ _ (Comes s c) (λ _. no′ 4) (λ _. go (argument c) refl)
     where
       no′ : (n : ℕ) → Comes s c (refuses (s .session) n)
       no′ n = (unchanged, refusing c n plain)
@@ -168,9 +165,9 @@ module _ (s : State) where
       go : (a : Option Record) → argument c ≡ a → Comes s c (receive (s .session) (s .frames) n a)
       go None e = no′ n
       go (Some r) e =
-          cond-both (isTimely r) _ _ (Comes s c)
-          (λ timely. cond-both (hasData r) _ _ (Comes s c)
-          (λ filled. cond-both (s .frames .room (length (encode r))) _ _ (Comes s c)
+          cond-both _ _ _ (Comes s c)
+          (λ timely. cond-both _ _ _ (Comes s c)
+          (λ filled. cond-both _ _ _ (Comes s c)
           (λ _. (accept r, accepting c r plain e (well-formed r timely filled) (ok r e)))
           (λ _. no′ 13)) (λ _. no′ 12)) (λ _. no′ 11)
 
@@ -180,17 +177,17 @@ module _ (s : State) where
   looks on unmarked space None e = (unchanged, no-record e)
   looks on unmarked space (Some r) e =
       let l : Looks s r = record { on = on; unmarked = unmarked; space = space; oldest-is = e } in
-      cond-both (late (s .session .selection) r) _ _ (Comes-by (Moves s)) (λ h. (endRun, ends r l h))
-      (λ h. cond-both (selected (s .session .selection) r) _ _ (Comes-by (Moves s)) (λ w. (takeOldest, takes r l h w)) (λ w. (passOldest, passes r l h w)))
+      cond-both _ _ _ (Comes-by (Moves s)) (λ h. (endRun, ends r l h))
+      (λ h. cond-both _ _ _ (Comes-by (Moves s)) (λ w. (takeOldest, takes r l h w)) (λ w. (passOldest, passes r l h w)))
 
   pub moves : Comes-by (Moves s) (moveBy s)
   unfolding moveBy
   moves =
       let full : Bool = eqb (length (s .session .buffer)) (s .settings .bufferSize) in
-      cond-both (isActive (s .session .phase)) _ _ (Comes-by (Moves s))
-      (λ on. cond-both (mustSend (s .settings) (s .session)) _ _ (Comes-by (Moves s))
+      cond-both _ _ _ (Comes-by (Moves s))
+      (λ on. cond-both _ _ _ (Comes-by (Moves s))
       (λ must. send-ways (Comes-by (Moves s)) (s .session) (s .transport) (handOver, Moves.sends must) (λ no′. (unchanged, Moves.waits must no′)))
-      (λ rest. cond-both (s .session .endMark) _ _ (Comes-by (Moves s)) (λ e. (unchanged, at-end e))
+      (λ rest. cond-both _ _ _ (Comes-by (Moves s)) (λ e. (unchanged, at-end e))
       (λ unmarked. looks (is-on (s .session .phase) on) unmarked (eqb-false (length (s .session .buffer)) (s .settings .bufferSize) (or-parts full _ rest .0)) (oldest (s .frames .held)) refl)))
       (λ off. (unchanged, not-active off))
 
@@ -199,10 +196,10 @@ module _ (s : State) where
   ticks =
       let on : Bool = isActive (s .session .phase) in
       let filled : Bool = isFilled (s .session .buffer) in
-      cond-both (on && filled) _ _ (Comes-by (Ticks s))
+      cond-both _ _ _ (Comes-by (Ticks s))
       (λ h. let both = and-parts on filled h in
       let ages : Ages s = record { on = is-on (s .session .phase) (both .0); filled = both .1 } in
-      cond-both (ltb (suc (s .session .age)) (s .settings .latencyLimit)) _ _ (Comes-by (Ticks s))
+      cond-both _ _ _ (Comes-by (Ticks s))
       (λ k. (countTick, grows-older ages (ltb-true (suc (s .session .age)) (s .settings .latencyLimit) k)))
       (λ _. send-ways (Comes-by (Ticks s)) (aged (s .settings .latencyLimit) (s .session)) (s .transport)
       ((λ l. handOver (countTick l)), Ticks.sends ages) (λ no′. (countTick, Ticks.waits ages no′))))
@@ -212,7 +209,7 @@ module _ (s : State) where
   unfolding collectBy
   collections n [] e = (unchanged, refusing (collect n) 30 (collection n))
   collections n (x ∷ xs) e =
-      cond-both (leb (length x) n) _ _ (Comes s (collect n))
+      cond-both _ _ _ (Comes s (collect n))
       (λ _. ((λ l. setPdus (l .pdus ++ x ∷ []) l), collecting-oldest n x xs e)) (λ _. (unchanged, refusing (collect n) 34 (collection n)))
 
   module _ (octets : List ℕ) where

@@ -45,11 +45,11 @@ unfolding openingNumber
 opened-inv g frames transport law e =
     let a = passed (inRange g) _ 0 e in
     let b = passed (isEmpty frames && isEmpty transport) _ 1 (a .1) in
-    let c = passed (leb longestRecord (frames .largest) && leb (g .bufferSize * longestRecord) (transport .largest)) 0 2 (b .1) in
+    let c = passed _ 0 2 (b .1) in
     let sizes = and-parts (upTo mostRecords (g .bufferSize)) _ (a .0) in
     let limits = and-parts (upTo longestLatency (g .latencyLimit)) _ (sizes .1) in
     let empties = and-parts (isEmpty frames) (isEmpty transport) (b .0) in
-    let widths = and-parts (leb longestRecord (frames .largest)) (leb (g .bufferSize * longestRecord) (transport .largest)) (c .0) in
+    let widths = and-parts _ (leb (g .bufferSize * longestRecord) (transport .largest)) (c .0) in
     record {
       phase = refl;
       mark = refl;

@@ -24,7 +24,7 @@ use Rattle.histories.specs.Sessions.{Phase, unbound, ready, active, isActive, 
 use Rattle.histories.specs.Calls.{Call, Answer, refused, idle, waiting, moved, passedOver, ended, quiet, startDone, stopDone, bindDone, unbindDone, abortDone, undecodable, protocolError, Outcome, says}
 use Rattle.histories.specs.Delivery.{transferPdu, isFilled}
 use Rattle.histories.specs.Invocations.{afterUnbind, isAccepted, lost, selectionOf}
-use Rattle.histories.specs.Provider.{State, produced, oldest}
+use Rattle.histories.specs.Provider.{State, produced, oldest, ending, taking, passing}
 use Rattle.histories.specs.Ledger.{Acceptance, Entry, Ledger, accept, entry, takeOldest, passOldest, endRun, older, countTick, handOver, beginRun, loseAssociation, setPhase, setPending, setPdus, recordOf}
 use Rattle.histories.specs.Statements.{recordsOf, octetsOf}
 use Rattle.codec.proofs.RecordsJoined.{records-written}
@@ -33,7 +33,7 @@ use Rattle.histories.proofs.Pdus.{records-push}
 use Rattle.histories.proofs.Entries.{WellAccepted, WellEntered, well-records, well-older, records-older}
 use Rattle.histories.proofs.LedgerLaws.{lawful-accept, tookOldest, passedOldest, takes-oldest, passes-oldest, lawful-take, lawful-pass, lawful-end, lawful-older, lawful-hand, lawful-pdu, lawful-phase, lawful-begin, lawful-lose}
 use Rattle.histories.proofs.Invariant.{Within, Framed, Buffered, Fitting, Inv, placed, Leads, keeping}
-use Rattle.histories.proofs.Outcomes.{admitting, sending, dropping, collecting, Looks, Ages, Moves, Ticks, Invokes, Does, Change}
+use Rattle.histories.proofs.Outcomes.{admitting, sending, collecting, Looks, Ages, Moves, Ticks, Invokes, Does, Change}
 use Rattle.histories.proofs.Outcomes as does
 
 -- one entry more in the transfer buffer
@@ -252,7 +252,7 @@ module _ (l : Ledger) (s : State) (i : Inv l s) where
     wanted b h = ap (λ (x : Selection). selected x (a .value)) (sym (i .selection)) ∙ h
 
     takes : late (s .session .selection) (a .value) ≡ false → selected (s .session .selection) (a .value) ≡ true
-        → Leads (Inv (tookOldest a more l)) s (dropping (entered (a .value) (s .session)) moved)
+        → Leads (Inv (tookOldest a more l)) s (taking (s .session) (a .value))
     takes h w frames transport f t =
         subst (λ (x : Queue). Inv (tookOldest a more l) (placed s (entered (a .value) (s .session)) frames x)) (sym t)
         (record {
@@ -266,7 +266,7 @@ module _ (l : Ledger) (s : State) (i : Inv l s) where
           lawful = lawful-take l a more u (i .lawful) unmarked (early false h) (wanted true w);
         })
 
-    passes : late (s .session .selection) (a .value) ≡ false → selected (s .session .selection) (a .value) ≡ false → Leads (Inv (passedOldest a more l)) s (dropping (s .session) passedOver)
+    passes : late (s .session .selection) (a .value) ≡ false → selected (s .session .selection) (a .value) ≡ false → Leads (Inv (passedOldest a more l)) s (passing (s .session))
     passes h w frames transport f t =
         subst (λ (x : Queue). Inv (passedOldest a more l) (placed s (s .session) frames x)) (sym t)
         (record {
@@ -312,16 +312,15 @@ module _ (l : Ledger) (s : State) (i : Inv l s) where
   step-move (Moves.sends h) = sends l s (s .session) i
   step-move (Moves.waits h k) = keeping (Inv l) s (s .session) waiting i
   step-move (does.ends r k h) =
-      keeping (Inv (endRun l)) s (marked (entered endOfData (s .session))) ended
-      (looked (λ x. late (s .session .selection) x ≡ true → Inv (endRun l) (placed s (marked (entered endOfData (s .session))) (s .frames) (s .transport)))
-      (λ a more u k′ h′. ends a more u k′ h′) r k (l .untaken) refl h)
+      looked (λ x. late (s .session .selection) x ≡ true → Leads (Inv (endRun l)) s (ending (s .session)))
+      (λ a more u k′ h′. keeping (Inv (endRun l)) s (marked (entered endOfData (s .session))) ended (ends a more u k′ h′)) r k (l .untaken) refl h
   step-move (does.takes r k h w) =
-      looked (λ x. late (s .session .selection) x ≡ false → selected (s .session .selection) x ≡ true → Leads (Inv (takeOldest l)) s (dropping (entered x (s .session)) moved))
-      (λ a more u k′ h′ w′. subst (λ (x : Ledger). Leads (Inv x) s (dropping (entered (a .value) (s .session)) moved)) (sym (takes-oldest l a more u)) (takes a more u k′ h′ w′))
+      looked (λ x. late (s .session .selection) x ≡ false → selected (s .session .selection) x ≡ true → Leads (Inv (takeOldest l)) s (taking (s .session) x))
+      (λ a more u k′ h′ w′. subst (λ (x : Ledger). Leads (Inv x) s (taking (s .session) (a .value))) (sym (takes-oldest l a more u)) (takes a more u k′ h′ w′))
       r k (l .untaken) refl h w
   step-move (does.passes r k h w) =
-      looked (λ x. late (s .session .selection) x ≡ false → selected (s .session .selection) x ≡ false → Leads (Inv (passOldest l)) s (dropping (s .session) passedOver))
-      (λ a more u k′ h′ w′. subst (λ (x : Ledger). Leads (Inv x) s (dropping (s .session) passedOver)) (sym (passes-oldest l a more u)) (passes a more u k′ h′ w′))
+      looked (λ x. late (s .session .selection) x ≡ false → selected (s .session .selection) x ≡ false → Leads (Inv (passOldest l)) s (passing (s .session)))
+      (λ a more u k′ h′ w′. subst (λ (x : Ledger). Leads (Inv x) s (passing (s .session))) (sym (passes-oldest l a more u)) (passes a more u k′ h′ w′))
       r k (l .untaken) refl h w
 
   step-tick : {o : Outcome} {f : Change} → Ticks s o f → Leads (Inv (f l)) s o

@@ -109,19 +109,27 @@ abbrev pub oldest : List (List ℕ) → Option Record
 oldest [] = None
 oldest (octets ∷ rest) = oneRecord octets
 
--- A move that looks at the oldest record of the frame buffer. A frame later than stop stays there, and end of data goes out in its place.
+-- A frame later than stop stays in the frame buffer; end of data enters in its place, and the end mark is set.
+abbrev pub ending : Session → Outcome
+ending s = record { answer = ended; copied = []; session = marked (entered endOfData s); onFrames = keep; onTransport = keep }
+
+-- Any other record leaves the frame buffer; it enters the transfer buffer, or is passed over.
+abbrev pub taking : Session → Record → Outcome
+taking s r = record { answer = moved; copied = []; session = entered r s; onFrames = drop-oldest; onTransport = keep }
+
+abbrev pub passing : Session → Outcome
+passing s = record { answer = passedOver; copied = []; session = s; onFrames = drop-oldest; onTransport = keep }
+
+-- What a move does with the oldest record of the frame buffer. Lateness is tested first, whatever the frame's quality.
 unfoldable pub moveRecord : Session → Option Record → Outcome
 moveRecord s None = says s idle
-moveRecord s (Some r) =
-    cond (late (s .selection) r) (says (marked (entered endOfData s)) ended)
-    (cond (selected (s .selection) r)
-    (record { answer = moved; copied = []; session = entered r s; onFrames = drop-oldest; onTransport = keep })
-    (record { answer = passedOver; copied = []; session = s; onFrames = drop-oldest; onTransport = keep }))
+moveRecord s (Some r) = cond (late (s .selection) r) (ending s) (cond (selected (s .selection) r) (taking s r) (passing s))
 
 -- The transfer buffer is sent when it is full, and what it has when the end mark is set.
 abbrev pub mustSend : Settings → Session → Bool
 mustSend g s = eqb (length (s .buffer)) (g .bufferSize) || (s .endMark && isFilled (s .buffer))
 
+-- A move: send what must be sent, else look at the oldest record, unless the end mark is set.
 unfoldable pub moveBy : State → Outcome
 moveBy s =
     cond (isActive (s .session .phase))
