@@ -15,7 +15,7 @@ use Rattle.histories.specs.Invocations.{table, bindBy, startBy, invokeBy}
 use Rattle.histories.specs.Provider.{State, openingNumber, admit, receiveBy, moveRecord, moveBy, outcome}
 use Rattle.histories.specs.Ledger.{Event}
 use Rattle.histories.specs.Histories.{History, opens, goes-on}
-use Rattle.histories.specs.Examples.{ideal, settings, stateAfter, finally, events, beginning, workedCalls, Ends-are-selected, Erred-is-passed-over, Late-frame-is-held, Restart-discards, Worked-history}
+use Rattle.histories.specs.Examples.{ideal, settings, stateAfter, finally, events, beginning, workedCalls, Ends-are-selected, Erred-is-passed-over, Late-frame-is-held, Restart-discards, Worked-history, Worked-ledger}
 use Rattle.histories.proofs.Ideal.{ideal-lawful}
 use Rattle.histories.proofs.Possible.{makes}
 
@@ -50,9 +50,11 @@ unfolding openingNumber
 opens-well = opens settings (ideal longestRecord []) (ideal (2 * longestRecord) []) (ideal-lawful longestRecord []) (ideal-lawful (2 * longestRecord) []) refl
 
 pub worked-history : Worked-history
+worked-history = plays workedCalls beginning [] opens-well
+
+pub worked-ledger : Worked-ledger
 unfolding opened-up
-worked-history = record {
-  history = plays workedCalls beginning [] opens-well;
+worked-ledger = record {
   answered = refl;
   finished = record { lasts = refl; nothing-pending = refl; at-end = inr refl };
   third-run = refl;

@@ -54,8 +54,8 @@ beginning = opened settings (ideal longestRecord []) (ideal (2 * longestRecord) 
 abbrev pub onDay : ℕ → Stamp
 onDay n = record { day = n; millisecond = 2; microsecond = 3 }
 
-abbrev pub good : ℕ → Record
-good n = frame Good (onDay n) (0xAA ∷ 0xBB ∷ [])
+abbrev pub dated : Quality → ℕ → Record
+dated q n = frame q (onDay n) (0xAA ∷ 0xBB ∷ [])
 
 abbrev pub received : Quality → ℕ → Call
 received q n = acquire (qualityOctet q) (onDay n) (0xAA ∷ 0xBB ∷ [])
@@ -84,7 +84,7 @@ stoppedCalls = binding ∷ received Good 1 ∷ received Erred 2 ∷ received Goo
 
 pub record Late-frame-is-held : Type 0 where
   pub answered : answers beginning stoppedCalls ≡ bindDone 7 1 ∷ accepted ∷ accepted ∷ accepted ∷ accepted ∷ startDone 8 ∷ moved ∷ passedOver ∷ moved ∷ sent ∷ ended ∷ sent ∷ idle ∷ []
-  pub held : finally beginning stoppedCalls .frames .held ≡ encode (good 4) ∷ []
+  pub held : finally beginning stoppedCalls .frames .held ≡ encode (dated Good 4) ∷ []
 
 -- START when active, one record moved.
 abbrev pub restartedCalls : List Call
@@ -94,25 +94,28 @@ pub record Restart-discards : Type 0 where
   pub answered : answers beginning restartedCalls ≡ bindDone 7 1 ∷ accepted ∷ startDone 8 ∷ moved ∷ protocolError 1 ∷ []
   pub unbound-again : finally beginning restartedCalls .session .phase ≡ unbound
 
--- A history: the record of the first run is lost by a protocol error; the second run passes over an erred frame, and its end of data stays in the transfer buffer over STOP and START; the third run sends it, and finishes.
+-- A history of three runs. The record of the first is lost by a protocol error. The second passes over an erred frame, ends at a late frame, though that is erred too, and its end of data stays in the transfer buffer over STOP and START. The third asks for all frames; its ticks send the end of data and then the frame, and it finishes.
 abbrev pub workedCalls : List Call
 workedCalls =
     binding ∷ received Good 1 ∷ startingGood None ∷ move ∷ startingGood None
-    ∷ binding ∷ received Good 2 ∷ received Erred 3 ∷ received Good 4 ∷ received Good 6 ∷ startingGood (Some (onDay 4)) ∷ move ∷ move ∷ move ∷ move ∷ move ∷ invoke (layout (stop 9))
-    ∷ startingGood None ∷ tick ∷ move ∷ move ∷ collect 60 ∷ collect 60 ∷ move ∷ []
+    ∷ binding ∷ received Good 2 ∷ received Erred 3 ∷ received Good 4 ∷ received Erred 6 ∷ startingGood (Some (onDay 4)) ∷ move ∷ move ∷ move ∷ move ∷ move ∷ invoke (layout (stop 9))
+    ∷ invoke (layout (start 10 All None None)) ∷ tick ∷ tick ∷ tick ∷ move ∷ move ∷ tick ∷ tick ∷ tick ∷ collect 60 ∷ collect 60 ∷ collect 60 ∷ []
 
 abbrev pub workedEvents : List Event
 workedEvents = events beginning workedCalls []
 
+abbrev pub Worked-history : Type 0
+Worked-history = History workedEvents (finally beginning workedCalls)
+
 abbrev pub numbers : List Acceptance → List ℕ
 numbers as′ = map (λ (a : Acceptance). a .number) as′
 
-pub record Worked-history : Type 0 where
-  pub history : History workedEvents (finally beginning workedCalls)
+-- Its answers, and what its ledger has.
+pub record Worked-ledger : Type 0 where
   pub answered : answers beginning workedCalls
       ≡ bindDone 7 1 ∷ accepted ∷ startDone 8 ∷ moved ∷ protocolError 1
       ∷ bindDone 7 1 ∷ accepted ∷ accepted ∷ accepted ∷ accepted ∷ startDone 8 ∷ moved ∷ passedOver ∷ moved ∷ sent ∷ ended ∷ stopDone 9
-      ∷ startDone 8 ∷ quiet ∷ moved ∷ sent ∷ collected 30 ∷ collected 27 ∷ idle ∷ []
+      ∷ startDone 10 ∷ quiet ∷ quiet ∷ sent ∷ moved ∷ idle ∷ quiet ∷ quiet ∷ sent ∷ collected 30 ∷ collected 12 ∷ collected 15 ∷ []
   pub finished : Finished (ledger workedEvents)
   pub third-run : ledger workedEvents .run .number ≡ 3
   pub due-is : numbers (due (ledger workedEvents .run .selection) (ledger workedEvents .run .offered)) ≡ 4 ∷ []
@@ -120,4 +123,4 @@ pub record Worked-history : Type 0 where
   pub handed-are : numbers (acceptances (ledger workedEvents .handed)) ≡ 1 ∷ 3 ∷ 4 ∷ []
   pub passed-are : numbers (ledger workedEvents .passed) ≡ 2 ∷ []
   pub discarded-are : numbers (acceptances (ledger workedEvents .discarded)) ≡ 0 ∷ []
-  pub pdus-say : recordsOf (ledger workedEvents .pdus) ≡ Some (good 2 ∷ good 4 ∷ endOfData ∷ good 6 ∷ [])
+  pub pdus-say : recordsOf (ledger workedEvents .pdus) ≡ Some (dated Good 2 ∷ dated Good 4 ∷ endOfData ∷ dated Erred 6 ∷ [])

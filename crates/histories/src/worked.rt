@@ -1,5 +1,5 @@
 //! Worked examples, evaluated by the definitions.
-ghost use Rattle.histories.specs.Examples.{Ends-are-selected, Erred-is-passed-over, Late-frame-is-held, Restart-discards, Worked-history};
+ghost use Rattle.histories.specs.Examples.{Ends-are-selected, Erred-is-passed-over, Late-frame-is-held, Restart-discards, Worked-history, Worked-ledger};
 
 /// Frames timed at start and at stop are selected.
 pub fn frames_at_both_ends_are_selected() -> u8
@@ -29,9 +29,10 @@ pub fn restart_discards() -> u8
     0
 }
 
-/// A history with three runs, from its first call to its ledger.
+/// Histories exist: one with three runs, and what its ledger has.
 pub fn worked_history() -> u8
-    ensures { λ _. ⌜ Worked-history ⌝ }
+    ensures exists { λ _. ⌜ Worked-history ⌝ }
+    ensures says { λ _. ⌜ Worked-ledger ⌝ }
 {
     0
 }
