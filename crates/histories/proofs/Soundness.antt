@@ -10,9 +10,9 @@ use Rattle.std.specs.shelf.Lists.{All}
 use Rattle.std.proofs.shelf.Lists.{nil-from-length}
 use Rattle.std.proofs.shelf.Tests.{and-parts, leb-true, eqb-true}
 use Rattle.codec.specs.Limits.{longestRecord}
-use Rattle.histories.specs.Queues.{Queue, Lawful}
+use Rattle.histories.specs.Queues.{Queue, Lawful, After}
 use Rattle.histories.specs.Sessions.{Settings, unbound}
-use Rattle.histories.specs.Calls.{Call, tick, Answer}
+use Rattle.histories.specs.Calls.{Call, tick, Answer, Outcome}
 use Rattle.histories.specs.Provider.{State, upTo, mostRecords, longestLatency, inRange, isEmpty, openingNumber, openedAs, opened, outcome}
 use Rattle.histories.specs.Ledger.{Event, Entry, Ledger, blank, step, ledger}
 use Rattle.histories.specs.Histories.{Step, History, opens, goes-on}
@@ -110,3 +110,17 @@ each-claim es s s′ e h st = claim e h st
 -- a call that answers and does what it comes to goes on with any history
 pub steps-continue : Steps-continue
 steps-continue s s′ e st es h = (goes-on e h st, claim e h st)
+
+-- for the proof of a call: what it comes to, and that it did so, makes a step
+pub step-by : (s s′ : State) (e : Event) (o : Outcome) → outcome s (e .call) ≡ o → e .answer ≡ o .answer → e .copied ≡ o .copied
+    → s′ .settings ≡ s .settings → s′ .opening ≡ s .opening → s′ .session ≡ o .session
+    → After (s .frames) (o .onFrames) (s′ .frames) → After (s .transport) (o .onTransport) (s′ .transport) → Step s e s′
+step-by s s′ e o comes answered copied settings opening session frames transport = record {
+  answer = answered ∙ sym (ap (λ (x : Outcome). x .answer) comes);
+  copied = copied ∙ sym (ap (λ (x : Outcome). x .copied) comes);
+  settings = settings;
+  opening = opening;
+  session = session ∙ sym (ap (λ (x : Outcome). x .session) comes);
+  frames = subst (λ (x : Outcome). After (s .frames) (x .onFrames) (s′ .frames)) (sym comes) frames;
+  transport = subst (λ (x : Outcome). After (s .transport) (x .onTransport) (s′ .transport)) (sym comes) transport;
+}

@@ -1,14 +1,10 @@
 -- How records leave: sending, tick and collection. Nothing here knows of the frame buffer.
-use mathlib.Core.Bool.{Bool, true, false, cond, _&&_}
-use mathlib.Core.List.{List, [], _∷_}
+use mathlib.Core.{Bool.Bool, Bool.true, Bool.false, Bool.cond, Bool._&&_, List.List, List.[], List._∷_}
 use Prim.Native.Nat.{ℕ, suc}
-use lib.Dec.{leb, ltb}
-use lib.ListN.{length, take, drop}
+use lib.{Dec.leb, Dec.ltb, ListN.length, ListN.take, ListN.drop}
 use Rattle.std.specs.{shelf.Lists.joined}
 use Rattle.codec.specs.{Records.Record, Records.encode}
-use Rattle.histories.specs.Queues.{Queue, keep, add, drop-oldest}
-use Rattle.histories.specs.Sessions.{Settings, Session, isActive, aged, holding}
-use Rattle.histories.specs.Calls.{Outcome, says, refuses, waiting, sent, quiet, collected}
+use Rattle.histories.specs.{Queues.Queue, Queues.keep, Queues.add, Queues.drop-oldest, Sessions.Settings, Sessions.Session, Sessions.isActive, Sessions.aged, Sessions.holding, Calls.Outcome, Calls.says, Calls.refuses, Calls.waiting, Calls.sent, Calls.quiet, Calls.collected}
 
 -- A transfer PDU: the octets of records, joined.
 abbrev pub transferPdu : List Record → List ℕ

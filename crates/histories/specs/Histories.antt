@@ -1,10 +1,6 @@
 -- Histories: from an accepted opening on, any sequence of calls, refused ones too, each on the result of the one before, over any lawful queues.
-use mathlib.Core.Path.{_≡_}
-use mathlib.Core.List.{List, [], _∷_}
-use Rattle.histories.specs.Queues.{Queue, Lawful, After}
-use Rattle.histories.specs.Sessions.{Settings}
-use Rattle.histories.specs.Provider.{State, openingNumber, opened, outcome}
-use Rattle.histories.specs.Ledger.{Event}
+use mathlib.Core.{Path._≡_, List.List, List.[], List._∷_}
+use Rattle.histories.specs.{Queues.Queue, Queues.Lawful, Queues.After, Sessions.Settings, Provider.State, Provider.openingNumber, Provider.opened, Provider.outcome, Ledger.Event}
 
 -- A call of the provider: from state s, by the event e, to state s′. It answers, copies and does what it comes to; what a queue makes of its room is free within the laws.
 pub record Step (s : State) (e : Event) (s′ : State) : Type 0 where

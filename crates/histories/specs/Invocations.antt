@@ -1,13 +1,10 @@
 -- What an invocation does: phase and operation together decide, by one table.
-use mathlib.Core.Bool.{Bool, true, false, cond}
-use mathlib.Core.List.{List, []}
+use mathlib.Core.{Bool.Bool, Bool.true, Bool.false, Bool.cond, List.List, List.[]}
 use Prim.Native.Nat.{ℕ}
-use lib.Dec.{leb}
-use lib.ListN.{length}
+use lib.{Dec.leb, ListN.length}
 use Rattle.std.specs.{declared.option.Option.Option, declared.result.Result.Result, declared.result.Result.the-variants.Ok, declared.result.Result.the-variants.Err, shelf.Lists.kept-by, shelf.Text.sameBytes}
 use Rattle.codec.specs.{declared.fault.Fault.Fault, declared.record.ProductionStatus.ProductionStatus, declared.record.ProductionStatus.the-variants.Running, declared.record.ProductionStatus.the-variants.Interrupted, declared.record.ProductionStatus.the-variants.Halted, declared.invocation.RequestedQuality.RequestedQuality, declared.invocation.UnbindReason.UnbindReason, declared.invocation.UnbindReason.the-variants.End, declared.invocation.UnbindReason.the-variants.Suspend, declared.invocation.UnbindReason.the-variants.VersionNotSupported, declared.invocation.UnbindReason.the-variants.Other, Times.Stamp, Records.Record, Records.frame, Records.loss, Records.status, Records.endOfData, Invocations.Request, Invocations.start, Invocations.stop, Invocations.bind, Invocations.unbind, Invocations.abort, InvocationReading.requestIn}
-use Rattle.histories.specs.Sessions.{Settings, Phase, unbound, ready, active, closed, Selection, emptySpan, Session, toPhase, holding, selecting}
-use Rattle.histories.specs.Calls.{Answer, startDone, stopDone, bindDone, unbindDone, abortDone, undecodable, protocolError, Outcome, says, refuses}
+use Rattle.histories.specs.{Sessions.Settings, Sessions.Phase, Sessions.unbound, Sessions.ready, Sessions.active, Sessions.closed, Sessions.Selection, Sessions.emptySpan, Sessions.Session, Sessions.toPhase, Sessions.holding, Sessions.selecting, Calls.Answer, Calls.startDone, Calls.stopDone, Calls.bindDone, Calls.unbindDone, Calls.abortDone, Calls.undecodable, Calls.protocolError, Calls.Outcome, Calls.says, Calls.refuses}
 
 -- A cell of the table: the phase that an operation leads to, if it is accepted; a protocol error (21); or another refusal's number.
 pub data Cell : Type 0 where

@@ -1,15 +1,10 @@
 -- The ledger of a history: fed each call's arguments and answer, and the octets that a collection copied, it keeps what became of every record.
-use mathlib.Core.Bool.{Bool, true, false, cond}
-use mathlib.Core.List.{List, [], _∷_, _++_, map}
+use mathlib.Core.{Bool.Bool, Bool.true, Bool.false, Bool.cond, List.List, List.[], List._∷_, List._++_, List.map}
 use Prim.Native.Nat.{ℕ, zero, suc}
-use lib.Dec.{eqb}
-use lib.ListN.{length, take, drop}
+use lib.{Dec.eqb, ListN.length, ListN.take, ListN.drop}
 use Rattle.std.specs.{declared.option.Option.Option, declared.option.Option.the-variants.Some, declared.option.Option.the-variants.None, declared.result.Result.Result, declared.result.Result.the-variants.Ok, declared.result.Result.the-variants.Err}
 use Rattle.codec.specs.{declared.fault.Fault.Fault, Records.Record, Records.endOfData, Invocations.Request, Invocations.start, Invocations.stop, Invocations.bind, Invocations.unbind, Invocations.abort, InvocationReading.requestIn}
-use Rattle.histories.specs.Sessions.{Phase, unbound, ready, active, closed, isActive, Selection}
-use Rattle.histories.specs.Calls.{Call, acquire, note, move, tick, collect, invoke, argument, Answer, accepted, refused, idle, waiting, sent, moved, passedOver, ended, quiet, collected, startDone, stopDone, bindDone, unbindDone, abortDone, undecodable, protocolError}
-use Rattle.histories.specs.Invocations.{Cell, to, protocol-error, refusal, table, selectionOf}
-use Rattle.histories.specs.Provider.{everything}
+use Rattle.histories.specs.{Sessions.Phase, Sessions.unbound, Sessions.ready, Sessions.active, Sessions.closed, Sessions.isActive, Sessions.Selection, Calls.Call, Calls.acquire, Calls.note, Calls.move, Calls.tick, Calls.collect, Calls.invoke, Calls.argument, Calls.Answer, Calls.accepted, Calls.refused, Calls.idle, Calls.waiting, Calls.sent, Calls.moved, Calls.passedOver, Calls.ended, Calls.quiet, Calls.collected, Calls.startDone, Calls.stopDone, Calls.bindDone, Calls.unbindDone, Calls.abortDone, Calls.undecodable, Calls.protocolError, Invocations.Cell, Invocations.to, Invocations.protocol-error, Invocations.refusal, Invocations.table, Invocations.selectionOf, Provider.everything}
 
 -- What the ledger is fed: a call, its answer, and the octets that it copied out.
 pub record Event : Type 0 where

@@ -1,14 +1,8 @@
 -- Delivery goes on: a run that is served finishes, and any calls can be served.
-use mathlib.Core.Path.{_≡_}
-use mathlib.Core.List.{List, [], _∷_, _++_}
+use mathlib.Core.{Path._≡_, List.List, List.[], List._∷_, List._++_}
 use Prim.Native.Nat.{ℕ, _*_, _≤_}
 use lib.ListN.{length, replicate}
-use Rattle.histories.specs.Sessions.{active}
-use Rattle.histories.specs.Calls.{Call, move, tick, collect}
-use Rattle.histories.specs.Provider.{State}
-use Rattle.histories.specs.Ledger.{Event, Ledger, ledger}
-use Rattle.histories.specs.Histories.{Step, History}
-use Rattle.histories.specs.Statements.{Finished}
+use Rattle.histories.specs.{Sessions.active, Calls.Call, Calls.move, Calls.tick, Calls.collect, Provider.State, Ledger.Event, Ledger.Ledger, Ledger.ledger, Histories.Step, Histories.History, Statements.Finished}
 
 -- From one history to a longer one by calls made in this order, each finding the transport empty; between them the collector may collect.
 pub data Served : List Call → List Event → State → List Event → State → Type 0 where

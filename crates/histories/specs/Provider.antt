@@ -1,16 +1,10 @@
 -- The provider of complete online delivery: opening, acquisition, note and move; and so what each of its calls does.
-use mathlib.Core.Bool.{Bool, true, false, cond, _&&_, _||_}
-use mathlib.Core.List.{List, [], _∷_}
+use mathlib.Core.{Bool.Bool, Bool.true, Bool.false, Bool.cond, Bool._&&_, Bool._||_, List.List, List.[], List._∷_}
 use Prim.Native.Nat.{ℕ, zero, suc, _*_}
-use lib.Dec.{eqb, leb}
-use lib.ListN.{length}
+use lib.{Dec.eqb, Dec.leb, ListN.length}
 use Rattle.std.specs.{declared.option.Option.Option, declared.option.Option.the-variants.Some, declared.option.Option.the-variants.None}
 use Rattle.codec.specs.{declared.record.ProductionStatus.the-variants.Running, declared.invocation.RequestedQuality.the-variants.All, Times.timely, Records.Record, Records.frame, Records.loss, Records.status, Records.endOfData, Records.encode, Records.dataLengthAllowed, RecordReading.oneRecord, Limits.longestRecord, Invocations.identifierLengthAllowed}
-use Rattle.histories.specs.Queues.{Queue, keep, add, drop-oldest}
-use Rattle.histories.specs.Sessions.{Settings, Phase, unbound, closed, isActive, isClosed, Selection, selected, late, Session, producing, marked, entered}
-use Rattle.histories.specs.Calls.{Call, acquire, note, move, tick, collect, invoke, argument, Outcome, says, refuses, accepted, idle, moved, passedOver, ended}
-use Rattle.histories.specs.Delivery.{send, isFilled, tickBy, collectBy}
-use Rattle.histories.specs.Invocations.{invokeBy}
+use Rattle.histories.specs.{Queues.Queue, Queues.keep, Queues.add, Queues.drop-oldest, Sessions.Settings, Sessions.Phase, Sessions.unbound, Sessions.closed, Sessions.isActive, Sessions.isClosed, Sessions.Selection, Sessions.selected, Sessions.late, Sessions.Session, Sessions.producing, Sessions.marked, Sessions.entered, Calls.Call, Calls.acquire, Calls.note, Calls.move, Calls.tick, Calls.collect, Calls.invoke, Calls.argument, Calls.Outcome, Calls.says, Calls.refuses, Calls.accepted, Calls.idle, Calls.moved, Calls.passedOver, Calls.ended, Delivery.send, Delivery.isFilled, Delivery.tickBy, Delivery.collectBy, Invocations.invokeBy}
 
 -- The state of a provider: its settings and the number of its opening, which never change; its session; its two queues.
 pub record State : Type 0 where

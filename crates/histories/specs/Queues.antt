@@ -1,7 +1,5 @@
 -- What a queue means to the provider, the two laws of its room, and what a call may do to it.
-use mathlib.Core.Path.{_≡_}
-use mathlib.Core.Bool.{Bool, true, false}
-use mathlib.Core.List.{List, [], _∷_, _++_}
+use mathlib.Core.{Path._≡_, Bool.Bool, Bool.true, Bool.false, List.List, List.[], List._∷_, List._++_}
 use Prim.Native.Nat.{ℕ, _≤_, _<_}
 
 -- A queue by its meaning: the records that it holds, as octets, oldest first; the largest length that it takes; for which lengths it has room now.

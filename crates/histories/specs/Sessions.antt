@@ -1,6 +1,5 @@
 -- A provider's own part: what it was opened with, the phase of its association, what START asked for, and its transfer buffer.
-use mathlib.Core.Bool.{Bool, true, false, _&&_, not}
-use mathlib.Core.List.{List, [], _∷_, _++_}
+use mathlib.Core.{Bool.Bool, Bool.true, Bool.false, Bool._&&_, Bool.not, List.List, List.[], List._∷_, List._++_}
 use Prim.Native.Nat.{ℕ}
 use Rattle.std.specs.{declared.option.Option.Option, declared.option.Option.the-variants.Some, declared.option.Option.the-variants.None}
 use Rattle.codec.specs.{declared.time.TimeOrder.TimeOrder, declared.time.TimeOrder.the-variants.Before, declared.time.TimeOrder.the-variants.Same, declared.time.TimeOrder.the-variants.After, declared.record.Quality.Quality, declared.record.Quality.the-variants.Good, declared.record.Quality.the-variants.Erred, declared.record.Quality.the-variants.Undetermined, declared.record.ProductionStatus.ProductionStatus, declared.invocation.RequestedQuality.RequestedQuality, declared.invocation.RequestedQuality.the-variants.GoodOnly, declared.invocation.RequestedQuality.the-variants.ErredOnly, declared.invocation.RequestedQuality.the-variants.All, Times.Stamp, Times.compared, Records.Record, Records.frame, Records.loss, Records.status, Records.endOfData}
