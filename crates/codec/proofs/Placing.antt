@@ -1,16 +1,11 @@
 -- Blocks placed in a buffer.
 use mathlib.Core.Path.{_≡_, sym, ap, _∙_}
-use mathlib.Core.Bool.{Bool}
 use mathlib.Core.List.{List, _++_, append-assoc}
 use Prim.Native.Nat.{ℕ, _+_, _-_, _≤_}
 use native.Mathlib.Omega.{arith}
 use lib.ListN.{length, take, drop, length-append}
-use borrow.Author.Needs.{needs}
 use borrow.Rule.Slice.PartMut.{putMid}
 use Rattle.std.proofs.shelf.Lists.{take-at, drop-at, drop-drop, length-take-le}
-use Rattle.std.specs.Orderings.{Decides}
-use Rattle.std.specs.shelf.Text.{sameBytes}
-use Rattle.std.proofs.shelf.Equals.{sameBytes-decides}
 use Rattle.codec.specs.Blocks.{placed}
 
 -- a write to a part of a slice places what is written
@@ -32,7 +27,3 @@ placed-twice out a b at h =
     sym (drop-drop (length b) (at + length a) (p ++ d)) ∙ ap (drop (length b)) (drop-at p d (at + length a) long) ∙ drop-drop (length b) (at + length a) out in
     let sum : at + length a + length b ≡ at + length (a ++ b) = omega (arith, length-append a b) in
     ap (λ o. placed o (at + length a) b) same ∙ (λ i. front i ++ (b ++ back i)) ∙ ap (λ n. p ++ (b ++ drop n out)) sum ∙ simp append-assoc
-
--- what decides whether two lists are the same is the test of their octets
-pub decided-same : (xs ys : List ℕ) (r : Bool) → Decides r (xs ≡ ys) → r ≡ sameBytes xs ys
-decided-same xs ys r h = search (needs, sameBytes-decides)

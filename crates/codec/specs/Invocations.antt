@@ -7,6 +7,8 @@ use lib.Dec.{leb}
 use lib.ListN.{length, take}
 use Rattle.std.specs.declared.option.Option.{Option}
 use Rattle.std.specs.declared.option.Option.the-variants.{Some, None}
+use Rattle.std.specs.declared.result.Result.{Result}
+use Rattle.std.specs.declared.result.Result.the-variants.{Ok, Err}
 use Rattle.codec.specs.Limits.{shortestIdentifier, longestIdentifier, octetLimit, twoOctetLimit}
 use Rattle.codec.specs.Times.{Stamp, stampIf, timely, twoOctets, stampOctets}
 use Rattle.codec.specs.declared.invocation.Identifier.{Identifier}
@@ -26,6 +28,10 @@ named i = take (i .count) (i .octets)
 abbrev pub namedIf : Option Identifier → Option (List ℕ)
 namedIf (Some i) = Some (named i)
 namedIf None = None
+
+abbrev pub namedOr : {E : Type 0} → Result Identifier E → Result (List ℕ) E
+namedOr (Ok i) = Ok (named i)
+namedOr (Err e) = Err e
 
 abbrev pub identifierLengthAllowed : ℕ → Bool
 identifierLengthAllowed n = leb shortestIdentifier n && leb n longestIdentifier

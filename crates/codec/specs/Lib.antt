@@ -8,3 +8,4 @@ pub mod RecordReading
 pub mod Reader
 pub mod Invocations
 pub mod InvocationReading
+pub mod Laws

@@ -36,6 +36,14 @@ contentOf (loss t) = lossContent t
 contentOf (status s) = statusContent s
 contentOf endOfData = endContent
 
+abbrev pub contentOr : Result Record Fault → Result Content Fault
+contentOr (Ok r) = Ok (contentOf r)
+contentOr (Err e) = Err e
+
+abbrev pub contentIf : Option Record → Option Content
+contentIf (Some r) = Some (contentOf r)
+contentIf None = None
+
 -- The content of the code's own type, and of what a reader answers.
 abbrev pub said : RecordContent → Content
 said (Frame q t n) = frameContent q (stamp t) n

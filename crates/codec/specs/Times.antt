@@ -41,6 +41,10 @@ abbrev pub stampOr : {E : Type 0} → Result Time E → Result Stamp E
 stampOr (Ok t) = Ok (stamp t)
 stampOr (Err e) = Err e
 
+abbrev pub stampIfOr : {E : Type 0} → Result (Option Time) E → Result (Option Stamp) E
+stampIfOr (Ok t) = Ok (stampIf t)
+stampIfOr (Err e) = Err e
+
 -- The stamp of three numbers of which the day fits its octets, or the first number that is beyond its limit.
 abbrev pub checkedStamp : ℕ → ℕ → ℕ → Result Stamp TimeField
 checkedStamp d ms us =

@@ -5,7 +5,14 @@ ghost use Rattle.codec.specs.Limits.{shortestIdentifier, longestIdentifier};
 use crate::fault::Fault;
 use crate::time::Time;
 
+mod body;
 mod identifiers;
+mod read;
+mod values;
+
+pub use read::InvocationFaultFromFault;
+pub use read::decode_invocation;
+pub use read::read_invocation;
 
 // The shortest and the longest identifier.
 pub const SHORTEST_IDENTIFIER: usize = 3;

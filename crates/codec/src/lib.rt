@@ -3,5 +3,6 @@ pub(crate) mod blocks;
 pub mod fault;
 pub(crate) mod fields;
 pub mod invocation;
+pub mod laws;
 pub mod record;
 pub mod time;

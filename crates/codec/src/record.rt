@@ -4,11 +4,16 @@ ghost use lib.ListN.{length};
 use crate::time::TIME_LENGTH;
 use crate::time::Time;
 
+mod count;
 mod marks;
 mod read;
+mod reader;
 mod values;
 mod write;
 
+pub use count::record_count;
+pub use read::one_record;
+pub use read::record_content;
 pub use write::write_frame;
 pub use write::write_notification;
 

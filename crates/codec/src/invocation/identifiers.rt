@@ -1,5 +1,8 @@
 ghost use mathlib.Core.Path.{_≡_};
+ghost use Prim.Native.Nat.{_≤_};
+ghost use lib.ListN.{length};
 ghost use Rattle.std.specs.shelf.Text.{sameBytes};
+ghost use Rattle.codec.specs.Limits.{shortestIdentifier, longestIdentifier};
 ghost use Rattle.codec.specs.Invocations.{named, namedIf, identifierFrom};
 use super::Identifier;
 use super::LONGEST_IDENTIFIER;
@@ -11,16 +14,24 @@ impl Identifier {
     pub fn new(octets: &[u8]) -> Option<Identifier>
         ensures { λ r. ⌜ namedIf r ≡ identifierFrom (now (octets .entry)) ⌝ }
     {
-        let count = octets.len();
-        if count < SHORTEST_IDENTIFIER || count > LONGEST_IDENTIFIER {
+        if octets.len() < SHORTEST_IDENTIFIER || octets.len() > LONGEST_IDENTIFIER {
             return None;
         }
+        Some(Identifier::of_octets(octets))
+    }
+
+    // The identifier of octets that are as many as an identifier may have.
+    pub(super) fn of_octets(octets: &[u8]) -> Identifier
+        requires low { ⌜ shortestIdentifier ≤ length (now octets) ⌝ }
+        requires high { ⌜ length (now octets) ≤ longestIdentifier ⌝ }
+        ensures { λ r. ⌜ named r ≡ now (octets .entry) ⌝ }
+    {
         let mut held = [0; LONGEST_IDENTIFIER];
         place_block(&mut held, 0, octets);
-        Some(Identifier {
+        Identifier {
             octets: held,
-            count,
-        })
+            count: octets.len(),
+        }
     }
 
     pub fn octets(&self) -> &[u8]

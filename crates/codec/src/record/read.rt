@@ -2,8 +2,10 @@ ghost use mathlib.Core.Path.{_≡_};
 ghost use Prim.Native.Nat.{_+_, _≤_};
 ghost use lib.ListN.{length};
 ghost use Rattle.std.specs.Vec.{made};
-ghost use Rattle.codec.specs.RecordReading.{said, saidOr, size, qualityAt, statusAt, zeroAt, dataLengthAt, frameAt, lossAt, statusChangeAt, endOfDataAt, notificationAt, contentAt};
+ghost use Rattle.codec.specs.RecordReading.{said, saidOr, saidIf, contentOr, contentIf, size, recordAt, oneRecord, qualityAt, statusAt, zeroAt, dataLengthAt, frameAt, lossAt, statusChangeAt, endOfDataAt, notificationAt, contentAt};
 use super::DATA_LIMIT;
+use super::FRAME_HEADER_LENGTH;
+use super::NOTIFICATION_LENGTH;
 use super::Notification;
 use super::ProductionStatus;
 use super::Quality;
@@ -20,6 +22,41 @@ use crate::fields::two_octets_at;
 use crate::time::TIME_LENGTH;
 use crate::time::read::time_at;
 use crate::time::read::zero_time_at;
+
+impl RecordContent {
+    // How many octets the record has.
+    pub fn record_length(&self) -> usize
+        ensures { λ r. ⌜ r ≡ size (said (now (self .entry))) ⌝ }
+    {
+        match self {
+            RecordContent::Frame { data_length, .. } => FRAME_HEADER_LENGTH + *data_length as usize,
+            RecordContent::Notification(_) => NOTIFICATION_LENGTH,
+        }
+    }
+}
+
+// What the record says that the octets begin with.
+pub fn record_content(octets: &[u8]) -> Result<RecordContent, Fault>
+    ensures { λ r. ⌜ saidOr r ≡ contentOr (recordAt (now (octets .entry)) 0) ⌝ }
+{
+    content_at(octets, 0)
+}
+
+// What the record says that the octets are, if they are exactly one.
+pub fn one_record(octets: &[u8]) -> Option<RecordContent>
+    ensures { λ r. ⌜ saidIf r ≡ contentIf (oneRecord (now (octets .entry))) ⌝ }
+{
+    match content_at(octets, 0) {
+        Ok(content) => {
+            if content.record_length() == octets.len() {
+                Some(content)
+            } else {
+                None
+            }
+        }
+        Err(_) => None,
+    }
+}
 
 fn quality_at(input: &[u8], place: usize) -> Result<Quality, Fault>
     requires { ⌜ place ≤ length (now input) ⌝ }

@@ -1,10 +1,7 @@
-use mathlib.Core.Path.{_≡_, ap, _∙_}
-use mathlib.Core.Bool.{Bool}
-use borrow.Author.Needs.{needs}
+use mathlib.Core.Path.{_∙_}
 use Rattle.std.specs.shelf.Text.{sameBytes}
-use Rattle.std.specs.Orderings.{Decides}
-use Rattle.std.proofs.shelf.Equals.{matches-decides, sameBytes-decides}
-use Rattle.codec.proofs.Placing.{decided-same}
+use Rattle.std.proofs.shelf.Equals.{matches-decides}
+use Rattle.codec.proofs.Slices.{decided-same}
 use Rattle.codec.proofs.invocation.Identifier.same.Needs as need
 
 pub returns : need.returns
