@@ -10,7 +10,7 @@ use Rattle.codec.specs.declared.fault.Fault.{Fault}
 use Rattle.codec.specs.Records.{Record}
 use Rattle.codec.specs.InvocationReading.{requestIn}
 use Rattle.histories.specs.Sessions.{Phase}
-use Rattle.histories.specs.Calls.{Call, move, tick, invoke, Answer, undecodable, abortDone, protocolError, Outcome}
+use Rattle.histories.specs.Calls.{Call, move, tick, invoke, undecodable, Outcome}
 use Rattle.histories.specs.Invocations.{isAccepted, lost}
 use Rattle.histories.specs.Provider.{State}
 use Rattle.histories.specs.Ledger.{Ledger, step, acceptances}

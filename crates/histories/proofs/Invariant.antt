@@ -1,5 +1,5 @@
 -- How the provider and its queues stand to the ledger, and how a call's outcome is held to it.
-use mathlib.Core.Path.{_≡_, sym, ap, _∙_, subst₂, subst₃}
+use mathlib.Core.Path.{_≡_, sym, subst₂, subst₃}
 use mathlib.Core.List.{List, _++_, map}
 use Prim.Native.Nat.{ℕ, _*_, _≤_, _<_}
 use lib.ListN.{length}

@@ -1,13 +1,12 @@
 -- An empty transport has room for the transfer buffer, and so ticks keep the latency limit.
-use mathlib.Core.Path.{_≡_, sym, ap, _∙_, subst}
-use mathlib.Core.Logic.{_⊎_, inl, inr}
-use mathlib.Core.Bool.{true, false, _&&_}
+use mathlib.Core.Path.{_≡_, sym, ap, subst}
+use mathlib.Core.Logic.{inl, inr}
+use mathlib.Core.Bool.{true, false}
 use mathlib.Core.List.{List, [], _∷_, map}
 use Prim.Native.Nat.{ℕ, suc, _≤_, _<_}
 use native.Mathlib.Omega.{arith}
 use lib.ListN.{length}
 use Rattle.std.specs.shelf.Lists.{All}
-use Rattle.std.proofs.shelf.Lists.{length-map}
 use Rattle.std.proofs.shelf.Elements.{all-weaker}
 use Rattle.std.proofs.shelf.Tests.{and-cases, both-ways, false≢true}
 use Rattle.codec.specs.Records.{Record, WellFormed}
@@ -15,7 +14,7 @@ use Rattle.histories.specs.Sessions.{active, isActive}
 use Rattle.histories.specs.Calls.{Outcome}
 use Rattle.histories.specs.Delivery.{transferPdu, isFilled}
 use Rattle.histories.specs.Provider.{State}
-use Rattle.histories.specs.Ledger.{Entry, Ledger, older, countTick, recordOf}
+use Rattle.histories.specs.Ledger.{Entry, Ledger, older}
 use Rattle.histories.proofs.Pdus.{pdu-bounds}
 use Rattle.histories.proofs.Entries.{well-records}
 use Rattle.histories.proofs.Invariant.{Inv, Within}

@@ -1,10 +1,10 @@
 -- Everything that a call can come to, with what must hold for it and what it does to a ledger: one case for each, so that a law of all calls is proved case by case.
 use mathlib.Core.Path.{_≡_, refl, sym, ap, _∙_, subst, subst₂}
-use mathlib.Core.Bool.{Bool, true, false, cond, _&&_, _||_}
+use mathlib.Core.Bool.{Bool, true, false, cond, _&&_}
 use mathlib.Core.List.{List, [], _∷_, _++_}
 use Prim.Native.Nat.{ℕ, zero, suc, _<_}
 use native.Mathlib.Omega.{arith}
-use lib.Dec.{eqb, leb, ltb}
+use lib.Dec.{eqb, leb}
 use lib.ListN.{length}
 use Rattle.std.proofs.shelf.Tests.{cond-both, and-parts, or-parts, both-ways, eqb-false, leb-true, ltb-true}
 use Rattle.std.proofs.shelf.Lists.{take-all, drop-all}
@@ -19,17 +19,17 @@ use Rattle.codec.specs.declared.record.ProductionStatus.{ProductionStatus}
 use Rattle.codec.specs.declared.invocation.RequestedQuality.{RequestedQuality}
 use Rattle.codec.specs.declared.invocation.UnbindReason.{UnbindReason}
 use Rattle.codec.specs.Times.{Stamp}
-use Rattle.codec.specs.Records.{Record, frame, loss, status, endOfData, encode, WellFormed, dataLengthAllowed}
+use Rattle.codec.specs.Records.{Record, frame, loss, status, endOfData, encode, WellFormed}
 use Rattle.codec.specs.RecordReading.{qualityOf, statusOf}
 use Rattle.codec.specs.Invocations.{Request, start, stop, bind, unbind, abort}
 use Rattle.codec.specs.InvocationReading.{requestIn}
 use Rattle.histories.specs.Queues.{Queue, keep, add, drop-oldest}
-use Rattle.histories.specs.Sessions.{Settings, Phase, unbound, ready, active, closed, isActive, isClosed, Selection, emptySpan, selected, late, Session, toPhase, aged, holding, marked, selecting, entered}
-use Rattle.histories.specs.Calls.{Call, acquire, note, move, tick, collect, invoke, argument, asFrame, asStatus, asNote, Answer, accepted, refused, idle, waiting, sent, moved, passedOver, ended, quiet, collected, startDone, stopDone, bindDone, unbindDone, abortDone, undecodable, protocolError, Outcome, says, refuses}
+use Rattle.histories.specs.Sessions.{Phase, unbound, ready, active, closed, isActive, emptySpan, selected, late, Session, toPhase, aged, holding, selecting}
+use Rattle.histories.specs.Calls.{Call, acquire, note, move, tick, collect, invoke, argument, asFrame, asStatus, asNote, accepted, idle, waiting, sent, quiet, collected, startDone, bindDone, abortDone, undecodable, protocolError, Outcome, says, refuses}
 use Rattle.histories.specs.Delivery.{transferPdu, sendFirst, send, isFilled, tickBy, collectBy}
-use Rattle.histories.specs.Invocations.{Cell, to, protocol-error, refusal, afterUnbind, table, isAccepted, lost, discard, bindBy, isHalted, startBy, selectionOf, performed, byCell, byFault, byReading, invokeBy}
+use Rattle.histories.specs.Invocations.{protocol-error, afterUnbind, table, isAccepted, discard, bindBy, isHalted, startBy, selectionOf, performed, byCell, byFault, byReading, invokeBy}
 use Rattle.histories.specs.Provider.{State, isTimely, hasData, produced, admit, receive, receiveBy, oldest, ending, taking, passing, moveRecord, mustSend, moveBy, outcome}
-use Rattle.histories.specs.Ledger.{Event, Ledger, accept, takeOldest, passOldest, endRun, countTick, handOver, discardPending, beginRun, setPhase, setPdus, loseAssociation, loseIfBound, enterPhase, followReading, performRequest, onCall, onAnswer, acceptArgument, step}
+use Rattle.histories.specs.Ledger.{Event, Ledger, accept, takeOldest, passOldest, endRun, countTick, handOver, beginRun, setPhase, setPdus, loseAssociation, loseIfBound, enterPhase, followReading, performRequest, onCall, acceptArgument, step}
 
 abbrev pub admitting : Session → Record → Outcome
 admitting s r = record { answer = accepted; copied = []; session = produced r s; onFrames = add (encode r); onTransport = keep }

@@ -11,7 +11,7 @@ use Rattle.std.specs.shelf.Lists.{All}
 use Rattle.std.proofs.shelf.Lists.{length-map, nil-from-length}
 use Rattle.std.proofs.shelf.Elements.{all-append}
 use Rattle.std.proofs.shelf.Tests.{cond-both, cond-true, cond-false, and-parts, and-cases, or-cases, both-ways, eqb-true, ne-eqb}
-use Rattle.std.specs.declared.option.Option.the-variants.{Some, None}
+use Rattle.std.specs.declared.option.Option.the-variants.{None}
 use Rattle.codec.specs.Records.{Record}
 use Rattle.codec.proofs.OneRecord.{one-record-written}
 use Rattle.histories.specs.Queues.{Queue, Effect, keep, After}

@@ -7,7 +7,7 @@ use Rattle.std.specs.shelf.Lists.{All}
 use Rattle.histories.specs.Sessions.{Phase, unbound, ready, active, closed}
 use Rattle.histories.specs.Calls.{Call, move, tick, collect, argument, Answer, accepted, refused, idle, waiting, sent, moved, passedOver, ended, quiet, collected, startDone, stopDone, bindDone, unbindDone, abortDone, undecodable, protocolError}
 use Rattle.histories.specs.Provider.{State}
-use Rattle.histories.specs.Ledger.{Ledger, Event, ledger, step, countTick, loseIfBound, acceptArgument, followInvocation, onAnswer, onCall}
+use Rattle.histories.specs.Ledger.{Ledger, Event, ledger, step, countTick, loseIfBound, acceptArgument, followInvocation, onAnswer}
 use Rattle.histories.specs.Progress.{Served, rests, collects, calls}
 
 module _ (l : Ledger) where

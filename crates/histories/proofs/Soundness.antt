@@ -1,7 +1,7 @@
 -- Every history keeps the invariant, and so every statement holds of it.
-use mathlib.Core.Path.{_≡_, refl, sym, ap, ap₂, _∙_, subst, subst₂}
+use mathlib.Core.Path.{_≡_, refl, sym, ap, ap₂, _∙_, subst}
 use mathlib.Core.Bool.{Bool, true, false, cond, _&&_}
-use mathlib.Core.List.{List, _∷_}
+use mathlib.Core.List.{List}
 use Prim.Native.Nat.{ℕ, suc, _*_, _<_}
 use native.Mathlib.Omega.{arith}
 use lib.Dec.{leb}
@@ -11,9 +11,9 @@ use Rattle.std.proofs.shelf.Lists.{nil-from-length}
 use Rattle.std.proofs.shelf.Tests.{and-parts, leb-true, eqb-true}
 use Rattle.codec.specs.Limits.{longestRecord}
 use Rattle.histories.specs.Queues.{Queue, Lawful, After}
-use Rattle.histories.specs.Sessions.{Settings, unbound}
-use Rattle.histories.specs.Calls.{Call, tick, Answer, Outcome}
-use Rattle.histories.specs.Provider.{State, upTo, mostRecords, longestLatency, inRange, isEmpty, openingNumber, openedAs, opened, outcome}
+use Rattle.histories.specs.Sessions.{Settings}
+use Rattle.histories.specs.Calls.{Call, Answer, Outcome}
+use Rattle.histories.specs.Provider.{State, upTo, mostRecords, longestLatency, inRange, isEmpty, openingNumber, openedAs, outcome}
 use Rattle.histories.specs.Ledger.{Event, Entry, Ledger, blank, step, ledger}
 use Rattle.histories.specs.Histories.{Step, History, opens, goes-on}
 use Rattle.histories.specs.Statements.{recordsOf, Sound, Punctual, Discards-rightly, Claim, Always, Each-call, Steps-continue}

@@ -1,9 +1,9 @@
 -- Whatever a call comes to, the invariant is kept.
 use mathlib.Core.Path.{_≡_, refl, sym, ap, _∙_, subst}
-use mathlib.Core.Logic.{_⊎_, inl, inr}
-use mathlib.Core.Bool.{Bool, true, false, cond, _&&_}
+use mathlib.Core.Logic.{inl, inr}
+use mathlib.Core.Bool.{Bool, true, false, _&&_}
 use mathlib.Core.List.{List, [], _∷_, _++_, map, append-assoc}
-use Prim.Native.Nat.{ℕ, zero, suc, _*_, _≤_, _<_}
+use Prim.Native.Nat.{ℕ, suc, _*_, _≤_, _<_}
 use native.Mathlib.Omega.{arith}
 use lib.ListN.{length, drop}
 use Rattle.std.specs.shelf.Lists.{All}
@@ -19,9 +19,9 @@ use Rattle.codec.specs.declared.invocation.UnbindReason.the-variants.{End, Susp
 use Rattle.codec.specs.Limits.{longestRecord}
 use Rattle.codec.specs.Records.{Record, frame, loss, status, endOfData, encode, WellFormed}
 use Rattle.codec.specs.RecordReading.{recordsIn}
-use Rattle.histories.specs.Queues.{Queue, Added, Dropped}
+use Rattle.histories.specs.Queues.{Queue, Dropped}
 use Rattle.histories.specs.Sessions.{Phase, unbound, ready, active, isActive, Settings, Selection, late, selected, Session, toPhase, producing, aged, holding, marked, selecting, ageAtEntry, entered}
-use Rattle.histories.specs.Calls.{Call, Answer, refused, idle, waiting, moved, passedOver, ended, quiet, startDone, stopDone, bindDone, unbindDone, abortDone, undecodable, protocolError, Outcome, says}
+use Rattle.histories.specs.Calls.{Call, refused, idle, waiting, ended, quiet, startDone, stopDone, bindDone, unbindDone, abortDone, undecodable, protocolError, Outcome, says}
 use Rattle.histories.specs.Delivery.{transferPdu, isFilled}
 use Rattle.histories.specs.Invocations.{afterUnbind, isAccepted, lost, selectionOf}
 use Rattle.histories.specs.Provider.{State, produced, oldest, ending, taking, passing}
@@ -33,7 +33,7 @@ use Rattle.histories.proofs.Pdus.{records-push}
 use Rattle.histories.proofs.Entries.{WellAccepted, WellEntered, well-records, well-older, records-older}
 use Rattle.histories.proofs.LedgerLaws.{lawful-accept, tookOldest, passedOldest, takes-oldest, passes-oldest, lawful-take, lawful-pass, lawful-end, lawful-older, lawful-hand, lawful-pdu, lawful-phase, lawful-begin, lawful-lose}
 use Rattle.histories.proofs.Invariant.{Within, Framed, Buffered, Fitting, Inv, placed, Leads, keeping}
-use Rattle.histories.proofs.Outcomes.{admitting, sending, collecting, Looks, Ages, Moves, Ticks, Invokes, Does, Change}
+use Rattle.histories.proofs.Outcomes.{admitting, sending, collecting, Looks, Moves, Ticks, Invokes, Does, Change}
 use Rattle.histories.proofs.Outcomes as does
 
 -- one entry more in the transfer buffer

@@ -1,5 +1,5 @@
 -- What holds in every history after every call.
-use mathlib.Core.{Path._≡_, Logic._⊎_, Bool.Bool, Bool.true, Bool.cond, List.List, List.[], List._∷_, List._++_, List.map}
+use mathlib.Core.{Path._≡_, Logic._⊎_, Bool.true, Bool.cond, List.List, List.[], List._∷_, List._++_, List.map}
 use Prim.Native.Nat.{ℕ, suc, _≤_, _<_}
 use lib.{Dec.eqb, ListN.length}
 use Rattle.std.specs.{shelf.Lists.All, shelf.Lists.kept-by, declared.option.Option.Option, declared.option.Option.the-variants.Some, declared.option.Option.the-variants.None, declared.result.Result.Result, declared.result.Result.the-variants.Ok, declared.result.Result.the-variants.Err}
