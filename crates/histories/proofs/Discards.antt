@@ -10,14 +10,14 @@ use Rattle.codec.specs.declared.fault.Fault.{Fault}
 use Rattle.codec.specs.Records.{Record}
 use Rattle.codec.specs.InvocationReading.{requestIn}
 use Rattle.histories.specs.Sessions.{Phase}
-use Rattle.histories.specs.Calls.{Call, move, tick, invoke, undecodable, Outcome}
+use Rattle.histories.specs.Calls.{Call, move, tick, collect, invoke, undecodable, Outcome}
 use Rattle.histories.specs.Invocations.{isAccepted, lost}
 use Rattle.histories.specs.Provider.{State}
 use Rattle.histories.specs.Ledger.{Ledger, step, acceptances}
 use Rattle.histories.specs.Statements.{told, Discarding, by-abort, by-protocol-error, undecodable-ready, undecodable-active, Discards-rightly}
 use Rattle.histories.proofs.Entries.{count-acceptances}
 use Rattle.histories.proofs.Invariant.{Inv}
-use Rattle.histories.proofs.Outcomes.{Moves, Ticks, Invokes, Does, Change, Bound, is-ready, is-active, event, books}
+use Rattle.histories.proofs.Outcomes.{Reception, Receives, Moves, Ticks, Collects, Invokes, Does, Change, Bound, is-ready, is-active, event, books}
 use Rattle.histories.proofs.Outcomes as does
 
 module _ (l : Ledger) (s : State) (i : Inv l s) where
@@ -40,6 +40,14 @@ module _ (l : Ledger) (s : State) (i : Inv l s) where
   misread : (octets : List ℕ) (fault : Fault) {p : Phase} (n : ℕ) → requestIn octets ≡ Err fault → Bound p → Discarding p (invoke octets) (undecodable fault n) n
   misread octets fault n r is-ready = undecodable-ready octets fault n r
   misread octets fault n r is-active = undecodable-active octets fault n r
+
+  by-reception : {c : Call} → Reception c → {o : Outcome} {f : Change} → Receives s c o f → Right c o
+  by-reception w (does.turns-away n) = none (does.receiving w (does.turns-away n)) refl refl
+  by-reception w (does.accepts r e well a) = none (does.receiving w (does.accepts r e well a)) refl refl
+
+  by-collection : (n : ℕ) {o : Outcome} {f : Change} → Collects s o f → Right (collect n) o
+  by-collection n (does.leaves k) = none (does.collecting-by n (does.leaves k)) refl refl
+  by-collection n (does.collects pdu more e) = none (does.collecting-by n (does.collects pdu more e)) refl refl
 
   by-move : {o : Outcome} {f : Change} → Moves s o f → Right move o
   by-move (does.not-active h) = none (does.moving (does.not-active h)) refl refl
@@ -69,9 +77,8 @@ module _ (l : Ledger) (s : State) (i : Inv l s) where
   by-invocation octets (does.misreads-unbound fault e) = none (does.invoking octets (does.misreads-unbound fault e)) refl refl
 
   pub rightly : {c : Call} {o : Outcome} {f : Change} → Does s c o f → Right c o
-  rightly (does.refusing c n plain) = none (does.refusing c n plain) refl refl
-  rightly (does.accepting c r plain e w a) = none (does.accepting c r plain e w a) refl refl
+  rightly (does.receiving w r) = by-reception w r
   rightly (does.moving m) = by-move m
   rightly (does.ticking t) = by-tick t
-  rightly (does.collecting-oldest n pdu more e) = none (does.collecting-oldest n pdu more e) refl refl
+  rightly (does.collecting-by n c) = by-collection n c
   rightly (does.invoking octets v) = by-invocation octets v

@@ -19,7 +19,7 @@ use Rattle.histories.specs.Provider.{State}
 use Rattle.histories.specs.Ledger.{Acceptance, Entry, Ledger, blank, accept, entry, takeOldest, passOldest, endRun, older, countTick, handOver, loseAssociation, setPending, acceptances, acceptedAs}
 use Rattle.histories.specs.Statements.{fates, bearing, acceptance, One-fate}
 use Rattle.histories.proofs.Entries.{Genuine, genuine-push, all-front, all-back, acceptances-append, acceptances-older}
-use Rattle.histories.proofs.Outcomes.{Moves, Ticks, Invokes, Does, Change}
+use Rattle.histories.proofs.Outcomes.{Receives, Moves, Ticks, Collects, Invokes, Does, Change}
 use Rattle.histories.proofs.Outcomes as does
 
 -- how many bear the number n
@@ -136,6 +136,14 @@ module _ (l : Ledger) (c : Accounted l) where
       (λ _. c)
 
 module _ (l : Ledger) (c : Accounted l) (s : State) where
+  by-reception : {k : Call} {o : Outcome} {f : Change} → Receives s k o f → Accounted (f l)
+  by-reception (does.turns-away n) = c
+  by-reception (does.accepts r e w a) = accepts l c r
+
+  by-collection : {o : Outcome} {f : Change} → Collects s o f → Accounted (f l)
+  by-collection (does.leaves n) = c
+  by-collection (does.collects pdu more e) = c
+
   by-move : {o : Outcome} {f : Change} → Moves s o f → Accounted (f l)
   by-move (does.not-active h) = c
   by-move (does.at-end h) = c
@@ -164,11 +172,10 @@ module _ (l : Ledger) (c : Accounted l) (s : State) where
   by-invocation (does.misreads-unbound fault e) = c
 
   pub accounted : {k : Call} {o : Outcome} {f : Change} → Does s k o f → Accounted (f l)
-  accounted (does.refusing k n plain) = c
-  accounted (does.accepting k r plain e w a) = accepts l c r
+  accounted (does.receiving w r) = by-reception r
   accounted (does.moving m) = by-move m
   accounted (does.ticking t) = by-tick t
-  accounted (does.collecting-oldest n pdu more e) = c
+  accounted (does.collecting-by n k) = by-collection k
   accounted (does.invoking octets i) = by-invocation i
 
 -- from the count to the record itself

@@ -48,12 +48,14 @@ Change = Ledger → Ledger
 abbrev pub unchanged : Change
 unchanged l = l
 
--- a call that by itself does nothing to a ledger
-pub data Plain : Call → Type 0 where
-  acquisition : (q : ℕ) (t : Stamp) (d : List ℕ) → Plain (acquire q t d)
-  noting : (type : ℕ) (t : Stamp) (v : ℕ) → Plain (note type t v)
-  collection : (n : ℕ) → Plain (collect n)
-  invocation : (octets : List ℕ) → Plain (invoke octets)
+-- an acquisition or a note
+pub data Reception : Call → Type 0 where
+  acquisition : (q : ℕ) (t : Stamp) (d : List ℕ) → Reception (acquire q t d)
+  noting : (type : ℕ) (t : Stamp) (v : ℕ) → Reception (note type t v)
+
+pub data Receives (s : State) (c : Call) : Outcome → Change → Type 0 where
+  turns-away : (n : ℕ) → Receives s c (refuses (s .session) n) unchanged
+  accepts : (r : Record) → argument c ≡ Some r → WellFormed r → isAccepted r ≡ true → Receives s c (admitting (s .session) r) (accept r)
 
 -- a move that looks at the oldest record
 pub record Looks (s : State) (r : Record) : Type 0 where
@@ -83,6 +85,10 @@ pub data Ticks (s : State) : Outcome → Change → Type 0 where
   sends : Ages s → Ticks s (sending (aged (s .settings .latencyLimit) (s .session))) (λ l. handOver (countTick l))
   waits : Ages s → s .transport .room (length (transferPdu (s .session .buffer))) ≡ false → Ticks s (says (aged (s .settings .latencyLimit) (s .session)) waiting) countTick
 
+pub data Collects (s : State) : Outcome → Change → Type 0 where
+  leaves : (n : ℕ) → Collects s (refuses (s .session) n) unchanged
+  collects : (pdu : List ℕ) (more : List (List ℕ)) → s .transport .held ≡ pdu ∷ more → Collects s (collecting (s .session) pdu) (λ l. setPdus (l .pdus ++ pdu ∷ []) l)
+
 pub data Bound : Phase → Type 0 where
   is-ready : Bound ready
   is-active : Bound active
@@ -102,12 +108,10 @@ pub data Invokes (s : State) (octets : List ℕ) : Outcome → Change → Type 0
   misreads-unbound : (fault : Fault) → s .session .phase ≡ unbound → Invokes s octets (says (s .session) (undecodable fault 0)) unchanged
 
 pub data Does (s : State) : Call → Outcome → Change → Type 0 where
-  refusing : (c : Call) (n : ℕ) → Plain c → Does s c (refuses (s .session) n) unchanged
-  accepting : (c : Call) (r : Record) → Plain c → argument c ≡ Some r → WellFormed r → isAccepted r ≡ true → Does s c (admitting (s .session) r) (accept r)
+  receiving : {c : Call} {o : Outcome} {f : Change} → Reception c → Receives s c o f → Does s c o f
   moving : {o : Outcome} {f : Change} → Moves s o f → Does s move o f
   ticking : {o : Outcome} {f : Change} → Ticks s o f → Does s tick o f
-  collecting-oldest : (n : ℕ) (pdu : List ℕ) (more : List (List ℕ)) → s .transport .held ≡ pdu ∷ more
-      → Does s (collect n) (collecting (s .session) pdu) (λ l. setPdus (l .pdus ++ pdu ∷ []) l)
+  collecting-by : {o : Outcome} {f : Change} (n : ℕ) → Collects s o f → Does s (collect n) o f
   invoking : {o : Outcome} {f : Change} (octets : List ℕ) → Invokes s octets o f → Does s (invoke octets) o f
 
 -- Each call comes to one of these.
@@ -127,13 +131,13 @@ is-on closed e = absurd (both-ways true (sym e) refl)
 -- to send all records is to send the whole transfer buffer
 pub send-ways : (P : Outcome → Type 0) (s : Session) (t : Queue) → P (sending s) → (t .room (length (transferPdu (s .buffer))) ≡ false → P (says s waiting)) → P (send s t)
 unfolding sendFirst
-send-ways P s t yes′ no′ =
+send-ways P s t room none =
     let n : ℕ = length (s .buffer) in
     subst₂
     (λ (xs ys : List Record).
     P (cond (t .room (length (transferPdu xs))) (record { answer = sent; copied = []; session = holding ys s; onFrames = keep; onTransport = add (transferPdu xs) }) (says s waiting)))
     (sym (take-all n (s .buffer) (omega arith))) (sym (drop-all n (s .buffer) (omega arith)))
-    (cond-both (t .room (length (transferPdu (s .buffer)))) _ _ P (λ _. yes′) no′)
+    (cond-both (t .room (length (transferPdu (s .buffer)))) _ _ P (λ _. room) none)
 
 well-formed : (r : Record) → isTimely r ≡ true → hasData r ≡ true → WellFormed r
 well-formed (frame q t d) h k = let both = and-parts (leb 1 (length d)) _ k in (h, leb-true 1 (length d) (both .0), leb-true (length d) _ (both .1))
@@ -155,21 +159,21 @@ note-accepted (suc zero) t v r e = status-accepted (statusOf v) r e
 note-accepted (suc (suc type)) t v r e = let z : _≡_ {A = ℕ} 0 1 = cc in absurd (omega arith)
 
 module _ (s : State) where
-  receives : (c : Call) (n : ℕ) → Plain c → ((r : Record) → argument c ≡ Some r → isAccepted r ≡ true) → Comes s c (receiveBy (s .session) (s .frames) n (argument c))
+  receives : (c : Call) (n : ℕ) → ((r : Record) → argument c ≡ Some r → isAccepted r ≡ true) → Comes-by (Receives s c) (receiveBy (s .session) (s .frames) n (argument c))
   unfolding receiveBy admit
-  receives c n plain ok = cond-both _ _ _ (Comes s c) (λ _. no′ 4) (λ _. go (argument c) refl)
+  receives c n ok = cond-both _ _ _ (Comes-by (Receives s c)) (λ _. refuse 4) (λ _. go (argument c) refl)
     where
-      no′ : (n : ℕ) → Comes s c (refuses (s .session) n)
-      no′ n = (unchanged, refusing c n plain)
+      refuse : (n : ℕ) → Comes-by (Receives s c) (refuses (s .session) n)
+      refuse n = (unchanged, turns-away n)
 
-      go : (a : Option Record) → argument c ≡ a → Comes s c (receive (s .session) (s .frames) n a)
-      go None e = no′ n
+      go : (a : Option Record) → argument c ≡ a → Comes-by (Receives s c) (receive (s .session) (s .frames) n a)
+      go None e = refuse n
       go (Some r) e =
-          cond-both _ _ _ (Comes s c)
-          (λ timely. cond-both _ _ _ (Comes s c)
-          (λ filled. cond-both _ _ _ (Comes s c)
-          (λ _. (accept r, accepting c r plain e (well-formed r timely filled) (ok r e)))
-          (λ _. no′ 13)) (λ _. no′ 12)) (λ _. no′ 11)
+          cond-both _ _ _ (Comes-by (Receives s c))
+          (λ timely. cond-both _ _ _ (Comes-by (Receives s c))
+          (λ filled. cond-both _ _ _ (Comes-by (Receives s c))
+          (λ _. (accept r, accepts r e (well-formed r timely filled) (ok r e)))
+          (λ _. refuse 13)) (λ _. refuse 12)) (λ _. refuse 11)
 
   looks : s .session .phase ≡ active → s .session .endMark ≡ false → (length (s .session .buffer) ≡ s .settings .bufferSize → ⊥) → (r : Option Record) → oldest (s .frames .held) ≡ r
       → Comes-by (Moves s) (moveRecord (s .session) r)
@@ -186,7 +190,7 @@ module _ (s : State) where
       let full : Bool = eqb (length (s .session .buffer)) (s .settings .bufferSize) in
       cond-both _ _ _ (Comes-by (Moves s))
       (λ on. cond-both _ _ _ (Comes-by (Moves s))
-      (λ must. send-ways (Comes-by (Moves s)) (s .session) (s .transport) (handOver, Moves.sends must) (λ no′. (unchanged, Moves.waits must no′)))
+      (λ must. send-ways (Comes-by (Moves s)) (s .session) (s .transport) (handOver, Moves.sends must) (λ none. (unchanged, Moves.waits must none)))
       (λ rest. cond-both _ _ _ (Comes-by (Moves s)) (λ e. (unchanged, at-end e))
       (λ unmarked. looks (is-on (s .session .phase) on) unmarked (eqb-false (length (s .session .buffer)) (s .settings .bufferSize) (or-parts full _ rest .0)) (oldest (s .frames .held)) refl)))
       (λ off. (unchanged, not-active off))
@@ -202,22 +206,23 @@ module _ (s : State) where
       cond-both _ _ _ (Comes-by (Ticks s))
       (λ k. (countTick, grows-older ages (ltb-true (suc (s .session .age)) (s .settings .latencyLimit) k)))
       (λ _. send-ways (Comes-by (Ticks s)) (aged (s .settings .latencyLimit) (s .session)) (s .transport)
-      ((λ l. handOver (countTick l)), Ticks.sends ages) (λ no′. (countTick, Ticks.waits ages no′))))
+      ((λ l. handOver (countTick l)), Ticks.sends ages) (λ none. (countTick, Ticks.waits ages none))))
       (λ h. (countTick, rests h))
 
-  collections : (n : ℕ) (h : List (List ℕ)) → s .transport .held ≡ h → Comes s (collect n) (collectBy (s .session) n h)
+  collections : (n : ℕ) (h : List (List ℕ)) → s .transport .held ≡ h → Comes-by (Collects s) (collectBy (s .session) n h)
   unfolding collectBy
-  collections n [] e = (unchanged, refusing (collect n) 30 (collection n))
-  collections n (x ∷ xs) e =
-      cond-both _ _ _ (Comes s (collect n))
-      (λ _. ((λ l. setPdus (l .pdus ++ x ∷ []) l), collecting-oldest n x xs e)) (λ _. (unchanged, refusing (collect n) 34 (collection n)))
+  collections n [] e = (unchanged, leaves 30)
+  collections n (pdu ∷ more) e = cond-both _ _ _ (Comes-by (Collects s)) (λ _. ((λ l. setPdus (l .pdus ++ pdu ∷ []) l), collects pdu more e)) (λ _. (unchanged, leaves 34))
+
+  pub collects-some : (n : ℕ) → Comes-by (Collects s) (collectBy (s .session) n (s .transport .held))
+  collects-some n = collections n (s .transport .held) refl
 
   module _ (octets : List ℕ) where
     abbrev Comes-to : Outcome → Type 0
     Comes-to o = Comes-by (Invokes s octets) o
 
-    no′ : (n : ℕ) → Comes-to (refuses (s .session) n)
-    no′ n = (unchanged, refused-by n)
+    refuse : (n : ℕ) → Comes-to (refuses (s .session) n)
+    refuse n = (unchanged, refused-by n)
 
     wrong : (p : Phase) (request : Request) → requestIn octets ≡ Ok request → s .session .phase ≡ p → table p request ≡ protocol-error → Comes-to (discard (s .session) protocolError)
     wrong p request r e t = (loseAssociation, errs request r (ap (λ (x : Phase). table x request) e ∙ t))
@@ -227,16 +232,16 @@ module _ (s : State) where
 
     by-table : (p : Phase) → s .session .phase ≡ p → (request : Request) → requestIn octets ≡ Ok request → Comes-to (byCell (s .settings) (s .session) request (table p request))
     unfolding table startBy bindBy
-    by-table unbound e (start id q from until) r = no′ 26
-    by-table unbound e (stop id) r = no′ 26
+    by-table unbound e (start id q from until) r = refuse 26
+    by-table unbound e (stop id) r = refuse 26
     by-table unbound e (bind id version identifier) r =
         cond-both (sameBytes identifier (s .settings .identifier)) _ _ Comes-to
-        (λ _. cond-both (leb (s .settings .version) version) _ _ Comes-to (λ _. (setPhase ready, binds id version identifier r e)) (λ _. no′ 23)) (λ _. no′ 22)
-    by-table unbound e (unbind id reason) r = no′ 26
-    by-table unbound e (abort diagnostic) r = no′ 26
+        (λ _. cond-both (leb (s .settings .version) version) _ _ Comes-to (λ _. (setPhase ready, binds id version identifier r e)) (λ _. refuse 23)) (λ _. refuse 22)
+    by-table unbound e (unbind id reason) r = refuse 26
+    by-table unbound e (abort diagnostic) r = refuse 26
     by-table ready e (start id q from until) r =
-        cond-both (isHalted (s .session .production)) _ _ Comes-to (λ _. no′ 25)
-        (λ _. cond-both (emptySpan from until) _ _ Comes-to (λ _. no′ 24)
+        cond-both (isHalted (s .session .production)) _ _ Comes-to (λ _. refuse 25)
+        (λ _. cond-both (emptySpan from until) _ _ Comes-to (λ _. refuse 24)
         (λ _. ((λ l. setPhase active (beginRun (selectionOf q from until) l)), starts id q from until r e)))
     by-table ready e (stop id) r = wrong ready (stop id) r e refl
     by-table ready e (bind id version identifier) r = wrong ready (bind id version identifier) r e refl
@@ -247,13 +252,13 @@ module _ (s : State) where
     by-table active e (bind id version identifier) r = wrong active (bind id version identifier) r e refl
     by-table active e (unbind id reason) r = wrong active (unbind id reason) r e refl
     by-table active e (abort diagnostic) r = (loseAssociation, aborts diagnostic r (bound active is-active e))
-    by-table closed e request r = no′ 4
+    by-table closed e request r = refuse 4
 
     by-fault : (p : Phase) → s .session .phase ≡ p → (fault : Fault) → requestIn octets ≡ Err fault → Comes-to (byFault (s .session) p fault)
     by-fault unbound e fault r = (unchanged, misreads-unbound fault e)
     by-fault ready e fault r = (loseAssociation, misreads fault r (bound ready is-ready e))
     by-fault active e fault r = (loseAssociation, misreads fault r (bound active is-active e))
-    by-fault closed e fault r = no′ 4
+    by-fault closed e fault r = refuse 4
 
     by-reading : (reading : Result Request Fault) → requestIn octets ≡ reading → Comes-to (byReading (s .settings) (s .session) reading)
     by-reading (Ok request) r = by-table (s .session .phase) refl request r
@@ -264,11 +269,11 @@ module _ (s : State) where
     invokes = let i = by-reading (requestIn octets) refl in (i .0, invoking octets (i .1))
 
   pub does : (c : Call) → Comes s c (outcome s c)
-  does (acquire q t d) = receives (acquire q t d) 10 (acquisition q t d) (λ r e. frame-accepted (qualityOf q) t d r e)
-  does (note type t v) = receives (note type t v) 14 (noting type t v) (λ r e. note-accepted type t v r e)
+  does (acquire q t d) = let r = receives (acquire q t d) 10 (λ r e. frame-accepted (qualityOf q) t d r e) in (r .0, receiving (acquisition q t d) (r .1))
+  does (note type t v) = let r = receives (note type t v) 14 (λ r e. note-accepted type t v r e) in (r .0, receiving (noting type t v) (r .1))
   does move = (moves .0, moving (moves .1))
   does tick = (ticks .0, ticking (ticks .1))
-  does (collect n) = collections n (s .transport .held) refl
+  does (collect n) = (collects-some n .0, collecting-by n (collects-some n .1))
   does (invoke octets) = invokes octets
 
 -- A ledger that knows the phase books what a call comes to.
@@ -305,11 +310,18 @@ module _ (s : State) (l : Ledger) (known : l .phase ≡ s .session .phase) where
   books-invocation (misreads fault r b) = follows-misread refl b
   books-invocation (misreads-unbound fault e) = ap (λ (x : Phase). loseIfBound x l) (known ∙ e)
 
-  plain-call : {c : Call} → Plain c → onCall c l ≡ l
-  plain-call (acquisition q t d) = refl
-  plain-call (noting type t v) = refl
-  plain-call (collection n) = refl
-  plain-call (invocation octets) = refl
+  -- neither does anything to a ledger by itself
+  reception : {c : Call} → Reception c → onCall c l ≡ l
+  reception (acquisition q t d) = refl
+  reception (noting type t v) = refl
+
+  books-reception : {c : Call} → Reception c → {o : Outcome} {f : Change} → Receives s c o f → step l (event c o) ≡ f l
+  books-reception w (turns-away n) = reception w
+  books-reception {c} w (accepts r e well ok) = ap (λ (x : Ledger). acceptArgument (argument c) x) (reception w) ∙ ap (λ (x : Option Record). acceptArgument x l) e
+
+  books-collection : (n : ℕ) {o : Outcome} {f : Change} → Collects s o f → step l (event (collect n) o) ≡ f l
+  books-collection n (leaves k) = refl
+  books-collection n (collects pdu more e) = refl
 
   books-move : {o : Outcome} {f : Change} → Moves s o f → step l (event move o) ≡ f l
   books-move (not-active h) = refl
@@ -328,9 +340,8 @@ module _ (s : State) (l : Ledger) (known : l .phase ≡ s .session .phase) where
   books-tick (Ticks.waits a h) = refl
 
   pub books : {c : Call} {o : Outcome} {f : Change} → Does s c o f → step l (event c o) ≡ f l
-  books (refusing c n plain) = plain-call plain
-  books (accepting c r plain e w a) = ap (λ (x : Ledger). acceptArgument (argument c) x) (plain-call plain) ∙ ap (λ (x : Option Record). acceptArgument x l) e
+  books (receiving w r) = books-reception w r
   books (moving m) = books-move m
   books (ticking t) = books-tick t
-  books (collecting-oldest n pdu more e) = refl
+  books (collecting-by n c) = books-collection n c
   books (invoking octets i) = books-invocation i

@@ -17,7 +17,7 @@ use Rattle.histories.specs.Histories.{Step}
 use Rattle.histories.specs.Examples.{idealAfter, stateAfter}
 use Rattle.histories.specs.Progress.{Served, rests, collects, calls, Calls-can-be-served}
 use Rattle.histories.proofs.Ideal.{ideal-lawful}
-use Rattle.histories.proofs.Outcomes.{Moves, Ticks, Invokes, Does, Change, event}
+use Rattle.histories.proofs.Outcomes.{Receives, Moves, Ticks, Collects, Invokes, Does, Change, event}
 use Rattle.histories.proofs.Outcomes as does
 
 -- what an ideal queue makes of a call is one of the things that a queue may make of it
@@ -43,6 +43,14 @@ abbrev Possible : State → Outcome → Type 0
 Possible s o = Can (s .frames) (o .onFrames) × Can (s .transport) (o .onTransport)
 
 module _ (s : State) where
+  by-reception : {c : Call} {o : Outcome} {f : Change} → Receives s c o f → Possible s o
+  by-reception (does.turns-away n) = (refl, refl)
+  by-reception (does.accepts r e w a) = (added _ _, refl)
+
+  by-collection : {o : Outcome} {f : Change} → Collects s o f → Possible s o
+  by-collection (does.leaves n) = (refl, refl)
+  by-collection (does.collects pdu more e) = (refl, dropped (s .transport) pdu more e)
+
   by-move : {o : Outcome} {f : Change} → Moves s o f → Possible s o
   by-move (does.not-active h) = (refl, refl)
   by-move (does.at-end h) = (refl, refl)
@@ -71,11 +79,10 @@ module _ (s : State) where
   by-invocation (does.misreads-unbound fault e) = (refl, refl)
 
   possible : {c : Call} {o : Outcome} {f : Change} → Does s c o f → Possible s o
-  possible (does.refusing c n plain) = (refl, refl)
-  possible (does.accepting c r plain e w a) = (added _ _, refl)
+  possible (does.receiving w r) = by-reception r
   possible (does.moving m) = by-move m
   possible (does.ticking t) = by-tick t
-  possible (does.collecting-oldest n pdu more e) = (refl, dropped (s .transport) pdu more e)
+  possible (does.collecting-by n c) = by-collection c
   possible (does.invoking octets i) = by-invocation i
 
   -- a step of each call

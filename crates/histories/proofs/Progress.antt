@@ -69,7 +69,7 @@ module _ (l : Ledger) (s : State) (i : Inv l s) (empty : s .transport .held ≡ 
   stays P x frames f p = subst (λ (q : Queue). P (s .settings) x q) (sym f) p
 
   no-wait : {X : Type 0} → 1 ≤ length (s .session .buffer) → s .transport .room (length (transferPdu (s .session .buffer))) ≡ false → X
-  no-wait some no′ = absurd (both-ways (s .transport .room (length (transferPdu (s .session .buffer)))) no′ (has-room l s i empty some))
+  no-wait some none = absurd (both-ways (s .transport .room (length (transferPdu (s .session .buffer)))) none (has-room l s i empty some))
 
   something : mustSend (s .settings) (s .session) ≡ true → 1 ≤ length (s .session .buffer)
   something h = elim (or-cases (eqb (length (s .session .buffer)) (s .settings .bufferSize)) (s .session .endMark && isFilled (s .session .buffer)) h) [
@@ -189,5 +189,5 @@ served-runs-finish es es′ s s′ k n h on many long served =
     let one = full-one (s .settings) (s .session) in
     let limit = i .fitting .some-limit in (
       moves-finish served h k n refl (omega arith) long (on, inr (omega arith)),
-      served-run served (all-append Inner (replicate k move) (replicate n tick) (all-replicate Inner k move moves) (all-replicate Inner n tick ticks)),
+      served-run served h (all-append Inner (replicate k move) (replicate n tick) (all-replicate Inner k move moves) (all-replicate Inner n tick ticks)),
     )

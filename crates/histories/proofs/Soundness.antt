@@ -30,7 +30,7 @@ as-decided : (s s′ : State) (e : Event) → Step s e s′ → e ≡ event (e .
 as-decided s s′ e st = ap₂ {C = Event} (λ (x : Answer) (y : List ℕ). record { call = e .call; answer = x; copied = y }) (st .answer) (st .copied)
 
 -- what the ledger makes of a step
-booked : (l : Ledger) (s s′ : State) (e : Event) → Inv l s → Step s e s′ → step l e ≡ does s (e .call) .0 l
+pub booked : (l : Ledger) (s s′ : State) (e : Event) → Inv l s → Step s e s′ → step l e ≡ does s (e .call) .0 l
 booked l s s′ e i st = ap (λ (x : Event). step l x) (as-decided s s′ e st) ∙ books s l (sym (i .phase)) (does s (e .call) .1)
 
 step-inv : (l : Ledger) (s s′ : State) (e : Event) → Inv l s → Step s e s′ → Inv (step l e) s′

@@ -9,7 +9,7 @@ use lib.ListN.{length, drop}
 use Rattle.std.specs.shelf.Lists.{All}
 use Rattle.std.proofs.shelf.Lists.{map-push, map-append, length-map, length-push, nil-from-length}
 use Rattle.std.proofs.shelf.Elements.{all-push, all-append}
-use Rattle.std.proofs.shelf.Tests.{cond-true, cond-false, cond-both, and-cases}
+use Rattle.std.proofs.shelf.Tests.{true≢false, cond-true, cond-false, cond-both, and-cases}
 use Rattle.std.specs.declared.option.Option.{Option}
 use Rattle.std.specs.declared.option.Option.the-variants.{Some, None}
 use Rattle.std.specs.declared.result.Result.the-variants.{Ok}
@@ -19,7 +19,7 @@ use Rattle.codec.specs.declared.invocation.UnbindReason.the-variants.{End, Susp
 use Rattle.codec.specs.Limits.{longestRecord}
 use Rattle.codec.specs.Records.{Record, frame, loss, status, endOfData, encode, WellFormed}
 use Rattle.codec.specs.RecordReading.{recordsIn}
-use Rattle.histories.specs.Queues.{Queue, Dropped}
+use Rattle.histories.specs.Queues.{Queue, Lawful, Dropped}
 use Rattle.histories.specs.Sessions.{Phase, unbound, ready, active, isActive, Settings, Selection, late, selected, Session, toPhase, producing, aged, holding, marked, selecting, ageAtEntry, entered}
 use Rattle.histories.specs.Calls.{Call, refused, idle, waiting, ended, quiet, startDone, stopDone, bindDone, unbindDone, abortDone, undecodable, protocolError, Outcome, says}
 use Rattle.histories.specs.Delivery.{transferPdu, isFilled}
@@ -33,7 +33,7 @@ use Rattle.histories.proofs.Pdus.{records-push}
 use Rattle.histories.proofs.Entries.{WellAccepted, WellEntered, well-records, well-older, records-older}
 use Rattle.histories.proofs.LedgerLaws.{lawful-accept, tookOldest, passedOldest, takes-oldest, passes-oldest, lawful-take, lawful-pass, lawful-end, lawful-older, lawful-hand, lawful-pdu, lawful-phase, lawful-begin, lawful-lose}
 use Rattle.histories.proofs.Invariant.{Within, Framed, Buffered, Fitting, Inv, placed, Leads, keeping}
-use Rattle.histories.proofs.Outcomes.{admitting, sending, collecting, Looks, Moves, Ticks, Invokes, Does, Change}
+use Rattle.histories.proofs.Outcomes.{admitting, sending, collecting, Looks, Receives, Moves, Ticks, Collects, Invokes, Does, Change}
 use Rattle.histories.proofs.Outcomes as does
 
 -- one entry more in the transfer buffer
@@ -63,7 +63,7 @@ older-within n (e ∷ es) a = (omega arith, older-within n es (a .1))
 emptied : (g : Settings) (age : ℕ) → Buffered g [] age []
 emptied g age = record { are = refl; well = tt; few = omega arith; ages = λ _. tt }
 
-refit : (g : Settings) (q q′ : Queue) → Fitting g q → q′ .largest ≡ q .largest → Rattle.histories.specs.Queues.Lawful q′ → Fitting g q′
+refit : (g : Settings) (q q′ : Queue) → Fitting g q → q′ .largest ≡ q .largest → Lawful q′ → Fitting g q′
 refit g q q′ f same law = record {
   some-size = f .some-size;
   some-limit = f .some-limit;
@@ -110,7 +110,7 @@ unbound-off Other = refl
 
 pub empty-buffer : (rs : List Record) → isFilled rs ≡ false → length rs ≡ 0
 empty-buffer [] h = refl
-empty-buffer (r ∷ rs) h = let z : _≡_ {A = Bool} true false = h in absurd (Rattle.std.proofs.shelf.Tests.true≢false z)
+empty-buffer (r ∷ rs) h = absurd (true≢false h)
 
 module _ (l : Ledger) (s : State) (i : Inv l s) where
   admits : (r : Record) → WellFormed r → isAccepted r ≡ true → Leads (Inv (accept r l)) s (admitting (s .session) r)
@@ -305,6 +305,14 @@ module _ (l : Ledger) (s : State) (i : Inv l s) where
       let same : a .value ≡ r = cc in
       subst (λ (x : Record). Looks s x → P x) same (λ k′. p a more u k′) k
 
+  step-reception : {c : Call} {o : Outcome} {f : Change} → Receives s c o f → Leads (Inv (f l)) s o
+  step-reception (does.turns-away n) = keeping (Inv l) s (s .session) (refused n) i
+  step-reception (does.accepts r e w a) = admits r w a
+
+  step-collection : {o : Outcome} {f : Change} → Collects s o f → Leads (Inv (f l)) s o
+  step-collection (does.leaves n) = keeping (Inv l) s (s .session) (refused n) i
+  step-collection (does.collects pdu more e) = collects pdu more e
+
   step-move : {o : Outcome} {f : Change} → Moves s o f → Leads (Inv (f l)) s o
   step-move (does.not-active h) = keeping (Inv l) s (s .session) idle i
   step-move (does.at-end h) = keeping (Inv l) s (s .session) idle i
@@ -348,9 +356,8 @@ module _ (l : Ledger) (s : State) (i : Inv l s) where
   step-invocation (does.misreads-unbound fault e) = keeping (Inv l) s (s .session) (undecodable fault 0) i
 
   pub steps : {c : Call} {o : Outcome} {f : Change} → Does s c o f → Leads (Inv (f l)) s o
-  steps (does.refusing c n plain) = keeping (Inv l) s (s .session) (refused n) i
-  steps (does.accepting c r plain e w a) = admits r w a
+  steps (does.receiving w r) = step-reception r
   steps (does.moving m) = step-move m
   steps (does.ticking t) = step-tick t
-  steps (does.collecting-oldest n pdu more e) = collects pdu more e
+  steps (does.collecting-by n c) = step-collection c
   steps (does.invoking octets v) = step-invocation v

@@ -99,7 +99,7 @@ abbrev pub Worked-history : Type 0
 Worked-history = History workedEvents (finally beginning workedCalls)
 
 abbrev pub numbers : List Acceptance → List ℕ
-numbers as′ = map (λ (a : Acceptance). a .number) as′
+numbers all = map (λ (a : Acceptance). a .number) all
 
 -- Its answers, and what its ledger has.
 pub record Worked-ledger : Type 0 where

@@ -19,7 +19,7 @@ recordsOf (pdu ∷ pdus) = joinReadings (recordsIn pdu) (recordsOf pdus)
 -- Each once, and in order of acceptance: the numbers rise, from n on.
 abbrev pub RisesFrom : ℕ → List Acceptance → Type 0
 RisesFrom n [] = Unit {0}
-RisesFrom n (a ∷ as′) = (n ≤ a .number) × RisesFrom (suc (a .number)) as′
+RisesFrom n (a ∷ rest) = (n ≤ a .number) × RisesFrom (suc (a .number)) rest
 
 -- First statement. On the way to the collector nothing is lost, doubled, reordered or made up: the PDUs collected and those that wait read as the records handed over, in order; those among them that were accepted are the records accepted under their numbers, each once, in order of acceptance. And the transfer buffer's records are those pending.
 pub record Delivered (l : Ledger) (s : State) : Type 0 where
@@ -31,7 +31,7 @@ pub record Delivered (l : Ledger) (s : State) : Type 0 where
 -- The due list of what a run was offered: cut before the first frame later than stop, unselected frames left out.
 abbrev pub due : Selection → List Acceptance → List Acceptance
 due c [] = []
-due c (a ∷ as′) = cond (late c (a .value)) [] (cond (selected c (a .value)) (a ∷ due c as′) (due c as′))
+due c (a ∷ rest) = cond (late c (a .value)) [] (cond (selected c (a .value)) (a ∷ due c rest) (due c rest))
 
 -- A run has finished while it lasts, nothing is pending, and the end mark is set or nothing is untaken.
 pub record Finished (l : Ledger) : Type 0 where
@@ -53,7 +53,7 @@ fates l = l .passed ++ (acceptances (l .discarded) ++ (acceptances (l .handed) +
 
 -- Those that bear the number n.
 abbrev pub bearing : ℕ → List Acceptance → List Acceptance
-bearing n as′ = kept-by (λ (a : Acceptance). eqb (a .number) n) as′
+bearing n all = kept-by (λ (a : Acceptance). eqb (a .number) n) all
 
 abbrev pub acceptance : ℕ → Option Record → List Acceptance
 acceptance n None = []
