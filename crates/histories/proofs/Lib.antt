@@ -1,0 +1,15 @@
+pub mod Pdus
+pub mod Entries
+pub mod Outcomes
+pub mod LedgerLaws
+pub mod Invariant
+pub mod Steps
+pub mod Fates
+pub mod Latency
+pub mod Discards
+pub mod Soundness
+pub mod Ideal
+pub mod SameRun
+pub mod Possible
+pub mod Progress
+pub mod Examples
