@@ -2,6 +2,7 @@ use std::env;
 use std::io;
 
 mod churn;
+mod limits;
 mod piles;
 
 use piles::Load;
@@ -23,6 +24,7 @@ fn rounds_wanted(rt: &LibcRuntime) -> io::Result<u32> {
 }
 
 fn main(rt: LibcRuntime) -> io::Result<()> {
+    limits::show(&rt)?;
     let rounds = rounds_wanted(&rt)?;
     for length in [64, 512, 2061] {
         for held in [10, 10000] {

@@ -48,18 +48,29 @@ fn fastest<Q: Queue>(
 
 // Fills the queue and churns records through it: what was moved on standard output, the time on standard error.
 fn measure<Q: Queue>(rt: &LibcRuntime, name: &str, queue: &mut Q, load: Load) -> io::Result<()> {
-    let Load { length, held, rounds } = load;
+    let Load {
+        length,
+        held,
+        rounds,
+    } = load;
     let mut record = vec![in rt.alloc(); 7u8; length]?;
     let mut out = vec![in rt.alloc(); 0u8; length]?;
     fill(queue, &mut record, held);
     let (tally, best) = fastest(rt, queue, &mut record, &mut out, rounds)?;
-    println!(rt, "{name} {length} {held} {} {} {}", tally.records, tally.octets, tally.sum)?;
+    println!(
+        rt,
+        "{name} {length} {held} {} {} {}",
+        tally.records, tally.octets, tally.sum
+    )?;
     eprintln!(rt, "{name} {length} {held} {rounds} {best}")
 }
 
 // Octets for this many packed records, and a few more, so that records go round the end.
 fn packed_octets(length: usize, records: usize) -> usize {
-    length.saturating_add(2).saturating_mul(records).saturating_add(5)
+    length
+        .saturating_add(2)
+        .saturating_mul(records)
+        .saturating_add(5)
 }
 
 pub fn packed(rt: &LibcRuntime, load: Load) -> io::Result<()> {
