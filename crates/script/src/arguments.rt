@@ -1,3 +1,5 @@
+ghost use Prim.Native.Nat.{_≤_};
+ghost use Rattle.std.specs.Vec.{made};
 use crate::complaint::Complaint;
 use crate::complaint::ComplaintFromAllocError;
 use crate::hexadecimal;
@@ -5,6 +7,19 @@ use crate::number::NumberFault;
 use crate::number::number;
 use crate::words::Words;
 use std::alloc::Global;
+
+// That a word which is to say `wanted` is missing.
+pub fn missing_word(heap: Global, wanted: &str) -> Complaint {
+    Complaint::of(format!(heap, "{wanted} is missing at the end of the line"))
+}
+
+// That a word is none of those expected.
+pub fn unknown_word(word: &[u8], heap: Global, expected: &str) -> Complaint {
+    match String::from_utf8_lossy(heap, word) {
+        Ok(text) => Complaint::of(format!(heap, "`{text}` is not known here; expected {expected}")),
+        Err(_) => Complaint::NoMemory,
+    }
+}
 
 // The next word, which is to say `wanted`.
 pub fn take_word<'a>(
@@ -14,7 +29,7 @@ pub fn take_word<'a>(
 ) -> Result<&'a [u8], Complaint> {
     match words.next() {
         Some(word) => Ok(word),
-        None => Err(Complaint::Says(format!(heap, "{wanted} is missing at the end of the line")?)),
+        None => Err(missing_word(heap, wanted)),
     }
 }
 
@@ -24,7 +39,9 @@ pub fn take_number(
     heap: Global,
     wanted: &str,
     most: u64,
-) -> Result<u64, Complaint> {
+) -> Result<u64, Complaint>
+    ensures { λ r. ⌜ made r (λ v. v ≤ most) ⌝ }
+{
     let word = take_word(words, heap, wanted)?;
     match number(word, most) {
         Ok(value) => Ok(value),
@@ -75,17 +92,4 @@ pub fn take_end(words: &mut Words, heap: Global) -> Result<(), Complaint> {
             Err(Complaint::Says(format!(heap, "`{text}` is a word too many")?))
         }
     }
-}
-
-// That a word is none of those expected.
-pub fn unknown_word(word: &[u8], heap: Global, expected: &str) -> Complaint {
-    match unknown_text(word, heap, expected) {
-        Ok(complaint) => complaint,
-        Err(complaint) => complaint,
-    }
-}
-
-fn unknown_text(word: &[u8], heap: Global, expected: &str) -> Result<Complaint, Complaint> {
-    let text = String::from_utf8_lossy(heap, word)?;
-    Ok(Complaint::Says(format!(heap, "`{text}` is not known here; expected {expected}")?))
 }

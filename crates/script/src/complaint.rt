@@ -8,6 +8,16 @@ pub enum Complaint {
     NoMemory,
 }
 
+impl Complaint {
+    // The text as a complaint, or that there was no memory for it.
+    pub fn of(text: Result<String, AllocError>) -> Complaint {
+        match text {
+            Ok(text) => Complaint::Says(text),
+            Err(_) => Complaint::NoMemory,
+        }
+    }
+}
+
 pub impl From<AllocError> for Complaint as ComplaintFromAllocError {
     fn from(_: AllocError) -> Complaint {
         Complaint::NoMemory

@@ -3,6 +3,7 @@ ghost use Prim.Native.Nat.{ℕ, _≤_, _^_};
 ghost use lib.ListN.{length};
 ghost use Rattle.script.specs.Numbers.{decimal, number-answer};
 ghost use Rattle.std.specs.Options.{Cases};
+ghost use Rattle.std.specs.Vec.{made};
 use crate::run::Class;
 use crate::run::run_length;
 
@@ -33,7 +34,8 @@ fn value(digits: &[u8]) -> Option<u64>
 
 // The number that a word of decimal digits says, if it is at most `most`.
 pub fn number(word: &[u8], most: u64) -> Result<u64, NumberFault>
-    ensures { λ r. ⌜ r ≡ number-answer (now (word .entry)) most ⌝ }
+    ensures answer { λ r. ⌜ r ≡ number-answer (now (word .entry)) most ⌝ }
+    ensures within { λ r. ⌜ made r (λ v. v ≤ most) ⌝ }
 {
     if run_length(word, Class::Digit) < word.len() {
         return Err(NumberFault::NotDecimal);

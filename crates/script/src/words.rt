@@ -1,4 +1,5 @@
 ghost use mathlib.Core.Path.{_≡_};
+ghost use lib.ListN.{length};
 ghost use Rattle.script.specs.Text.{first-word, after-word, text-in};
 use crate::run::Class;
 use crate::run::run_length;
@@ -26,5 +27,12 @@ impl<'a> Words<'a> {
         let n = run_length(from, Class::Word);
         self.rest = &from[n..];
         if n == 0 { None } else { Some(&from[0..n]) }
+    }
+
+    // How many octets of the line are left.
+    pub fn left(&self) -> usize
+        ensures { λ r. ⌜ r ≡ length (now (now (self .entry) .rest)) ⌝ }
+    {
+        self.rest.len()
     }
 }
