@@ -5,8 +5,10 @@ use Rattle.ring.specs.Rings.{elements, size}
 use Rattle.packed.specs.declared.packed.Packed.{Packed}
 use Rattle.packed.specs.Packing.{unpacked}
 
+-- The held records, oldest first.
 abbrev pub held-in : Packed → List (List ℕ)
 held-in q = unpacked (q .count) (elements (q .ring))
 
+-- The octets that the queue was made of.
 abbrev pub octets-in : Packed → ℕ
 octets-in q = size (q .ring)

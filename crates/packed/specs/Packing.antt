@@ -14,6 +14,7 @@ length-limit = 65535
 abbrev pub head-size : ℕ
 head-size = 2
 
+-- Records as octets: of each record its length's two octets, then its own.
 abbrev pub packed : List (List ℕ) → List ℕ
 packed [] = []
 packed (r ∷ rs) = (length r / 256) ∷ ((length r % 256) ∷ (r ++ packed rs))
@@ -34,9 +35,10 @@ packed-size (r ∷ rs) = (length r + head-size) + packed-size rs
 abbrev pub packed-largest : ℕ → ℕ
 packed-largest octets = min (octets - head-size) length-limit
 
--- Room for n octets more where this many are taken up.
+-- Room for a record of n octets where this many octets are taken up.
 abbrev pub room-beside : ℕ → ℕ → ℕ → Bool
 room-beside octets taken n = fair (packed-largest octets) n && leb (taken + (n + head-size)) octets
 
+-- Room for a record of n octets beside those held, in this many octets.
 abbrev pub packed-room : ℕ → List (List ℕ) → ℕ → Bool
 packed-room octets held n = room-beside octets (packed-size held) n

@@ -3,5 +3,6 @@ use denote.Ref.{now}
 use mathlib.Core.List.{List}
 use Rattle.ring.specs.declared.memory.Memory.{Memory}
 
+-- The elements of the memory, from its first place on.
 abbrev pub contents : {X : Type 0} → Memory X → List X
 contents m = now (m .slots)

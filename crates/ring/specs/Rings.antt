@@ -25,6 +25,7 @@ fits held most run = leb (length held + length run) most
 abbrev pub add-answer : {X : Type 0} → List X → ℕ → List X → Answer (Unit {0})
 add-answer held most run = cond (fits held most run) (gives tt) (refuses 33)
 
+-- The elements after a run is added, or refused.
 abbrev pub added : {X : Type 0} → List X → ℕ → List X → List X
 added held most run = cond (fits held most run) (held ++ run) held
 
@@ -38,5 +39,6 @@ element-answer (x ∷ xs) (suc at) = element-answer xs at
 abbrev pub drop-answer : {X : Type 0} → List X → ℕ → Answer (Unit {0})
 drop-answer held n = cond (leb n (length held)) (gives tt) (refuses 30)
 
+-- The elements after the n oldest are removed, or that is refused.
 abbrev pub dropped : {X : Type 0} → List X → ℕ → List X
 dropped held n = cond (leb n (length held)) (drop n held) held

@@ -5,6 +5,7 @@ use Prim.Native.Nat.{ℕ, _+_, _-_}
 use lib.Dec.{ltb}
 use lib.ListN.{take, drop}
 
+-- The list from start on, then what stands before start.
 abbrev pub turned : {X : Type 0} → ℕ → List X → List X
 turned start xs = drop start xs ++ take start xs
 

@@ -6,11 +6,14 @@ use Rattle.ring.specs.Rings.{elements}
 use Rattle.slot.specs.declared.slotted.Slotted.{Slotted}
 use Rattle.slot.specs.Slots.{noted}
 
+-- The held records, oldest first.
 abbrev pub held-in : Slotted → List (List ℕ)
 held-in q = map (noted (contents (q .octets))) (elements (q .notes))
 
+-- The number of slots.
 abbrev pub slots-in : Slotted → ℕ
 slots-in q = q .slots
 
+-- The octets of a slot.
 abbrev pub width-in : Slotted → ℕ
 width-in q = q .width

@@ -23,9 +23,10 @@ slots-of notes octets width = cond (ltb 0 width) (min notes (octets / width)) 0
 abbrev pub slot-largest : ℕ → ℕ → ℕ
 slot-largest slots width = cond (ltb 0 slots) (min width length-limit) 0
 
--- Room for n octets where this many records are held.
+-- Room for a record of n octets where this many records are held.
 abbrev pub room-beside : ℕ → ℕ → ℕ → ℕ → Bool
 room-beside slots width count n = fair (slot-largest slots width) n && ltb count slots
 
+-- Room for a record of n octets beside those held.
 abbrev pub slot-room : ℕ → ℕ → List (List ℕ) → ℕ → Bool
 slot-room slots width held n = room-beside slots width (length held) n
