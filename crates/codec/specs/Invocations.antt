@@ -119,6 +119,7 @@ WellFormedRequest (abort d) = d ≤ octetLimit
 
 -- The number under which a refused invocation is answered.
 abbrev pub number : InvocationFault → ℕ
+number fault-variants.Closed = 4
 number (fault-variants.Undecodable f) = 20
 number fault-variants.ProtocolError = 21
 number fault-variants.AccessDenied = 22

@@ -73,6 +73,7 @@ pub enum Invocation {
 // Why an invocation is refused.
 #[derive(Clone, Copy)]
 pub enum InvocationFault {
+    Closed,
     Undecodable(Fault),
     NoAssociation,
     ProtocolError,

@@ -63,6 +63,7 @@ impl InvocationFault {
         ensures { λ r. ⌜ r ≡ number self ⌝ }
     {
         match self {
+            InvocationFault::Closed => 4,
             InvocationFault::Undecodable(_) => 20,
             InvocationFault::ProtocolError => 21,
             InvocationFault::AccessDenied => 22,

@@ -1,0 +1,4 @@
+pub mod Answers
+pub mod Selections
+pub mod Buffers
+pub mod Held

@@ -1,0 +1,6 @@
+//! The provider end of one Return All Frames service instance in complete online delivery, over any two queues.
+
+pub mod answer;
+pub mod phase;
+pub mod selection;
+pub mod transfer_buffer;

@@ -1,0 +1,12 @@
+use codec::invocation::RequestedQuality;
+use codec::time::Time;
+
+pub(crate) mod tests_of_records;
+
+// What a START asks for: frames of a quality, not before start, and not later than stop.
+#[derive(Clone, Copy)]
+pub struct Selection {
+    pub quality: RequestedQuality,
+    pub start: Option<Time>,
+    pub stop: Option<Time>,
+}
