@@ -2,3 +2,5 @@ pub mod Answers
 pub mod Selections
 pub mod Buffers
 pub mod Held
+pub mod Sessions
+pub mod Invoking

@@ -3,4 +3,6 @@
 pub mod answer;
 pub mod phase;
 pub mod selection;
+pub mod session;
+pub mod settings;
 pub mod transfer_buffer;

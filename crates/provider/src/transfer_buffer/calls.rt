@@ -37,7 +37,8 @@ fn write_at(out: &mut [u8], place: usize, octets: &[u8])
 
 impl TransferBuffer {
     pub(crate) fn new() -> TransferBuffer
-        ensures { λ r. ⌜ records-of r ≡ [] ⌝ }
+        ensures none { λ r. ⌜ records-of r ≡ [] ⌝ }
+        ensures count { λ r. ⌜ r .count ≡ 0 ⌝ }
     {
         TransferBuffer {
             octets: [0; BUFFER_OCTETS],
@@ -51,7 +52,8 @@ impl TransferBuffer {
     pub(crate) fn push(&mut self, octets: &[u8], content: &RecordContent)
         requires room { ⌜ now self .count < mostRecords ⌝ }
         requires one { ⌜ Some (said (now content)) ≡ contentIf (oneRecord (now octets)) ⌝ }
-        ensures { λ _. ⌜ records-of (now (self .exit)) ≡ records-of (now (self .entry)) ++ record-list (oneRecord (now (octets .entry))) ⌝ }
+        ensures more { λ _. ⌜ records-of (now (self .exit)) ≡ records-of (now (self .entry)) ++ record-list (oneRecord (now (octets .entry))) ⌝ }
+        ensures count { λ _. ⌜ now (self .exit) .count ≡ now (self .entry) .count + 1 ⌝ }
     {
         let used = self.used;
         write_at(&mut self.octets, used, octets);
@@ -62,7 +64,8 @@ impl TransferBuffer {
 
     // Takes all records out.
     pub(crate) fn clear(&mut self)
-        ensures { λ _. ⌜ records-of (now (self .exit)) ≡ [] ⌝ }
+        ensures none { λ _. ⌜ records-of (now (self .exit)) ≡ [] ⌝ }
+        ensures count { λ _. ⌜ now (self .exit) .count ≡ 0 ⌝ }
     {
         self.count = 0;
         self.used = 0;

@@ -14,4 +14,4 @@ ghost-self c =
     (c .args .self .now .size, (omega arith, (omega arith, (ap (joined encode) none, (ap all-well-formed none, (sym (ap length none), (sym (ap accepted-count none), tt)))))))
 
 pub returns : need.returns
-returns c = none-held (c .args .self .now .octets)
+returns c = record { none = none-held (c .args .self .now .octets); count = refl }

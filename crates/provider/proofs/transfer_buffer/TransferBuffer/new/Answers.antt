@@ -14,4 +14,4 @@ ghost-result c =
     (length-replicate {A = ℕ} 16488 0, (omega arith, (omega arith, (ap (joined encode) none, (ap all-well-formed none, (sym (ap length none), (sym (ap accepted-count none), tt)))))))
 
 pub returns : need.returns
-returns c = none-held (replicate 16488 0)
+returns c = record { none = none-held (replicate 16488 0); count = refl }

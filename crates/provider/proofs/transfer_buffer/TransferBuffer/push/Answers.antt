@@ -1,3 +1,4 @@
+use mathlib.Core.Path.{refl}
 use native.Mathlib.Omega.{arith}
 use lib.ListN.{length}
 use Rattle.codec.specs.RecordReading.{said}
@@ -23,8 +24,9 @@ ghost-self c =
 pub returns : need.returns
 returns c =
     let b = c .args .self .now in
-    pushed (b .octets) (b .used) (b .count) (b .accepted) (kept b) (c .write-at .last .out) (c .args .octets .now) (said (c .args .content .now)) (c .accepted-weight .result)
-    (c .pre .one) (c .pre .room) (c .write-at .ensures) (c .accepted-weight .ensures) .1
+    let p = pushed (b .octets) (b .used) (b .count) (b .accepted) (kept b) (c .write-at .last .out) (c .args .octets .now) (said (c .args .content .now)) (c .accepted-weight .result)
+    (c .pre .one) (c .pre .room) (c .write-at .ensures) (c .accepted-weight .ensures) in
+    record { more = p .1; count = refl }
 
 pub add-self-3 : need.add-self-3
 add-self-3 c =
