@@ -1,2 +1,4 @@
 pub mod Contents
 pub mod Buffers
+pub mod Queues
+pub mod Sending

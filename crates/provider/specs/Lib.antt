@@ -4,3 +4,4 @@ pub mod Buffers
 pub mod Held
 pub mod Sessions
 pub mod Invoking
+pub mod States

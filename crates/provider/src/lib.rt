@@ -2,6 +2,7 @@
 
 pub mod answer;
 pub mod phase;
+pub mod provider;
 pub mod selection;
 pub mod session;
 pub mod settings;

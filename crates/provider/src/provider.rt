@@ -1,0 +1,11 @@
+use crate::session::Session;
+
+pub(crate) mod delivery;
+
+// The provider end of a service instance, between a frame buffer and a transport.
+#[derive(Drop)]
+pub struct Provider<F, T> {
+    pub(crate) session: Session,
+    pub(crate) frames: F,
+    pub(crate) transport: T,
+}
