@@ -1,12 +1,12 @@
 -- The code's provider over two queues, as the provider's definition has it, and what a call leads to.
 use mathlib.Core.Path.{_≡_}
-use mathlib.Core.List.{List, [], _++_}
+use mathlib.Core.List.{List, [], _∷_, _++_}
 use Prim.Native.Nat.{ℕ}
 use lib.ListN.{length, drop}
 use Rattle.queue.specs.declared.meaning.Meaning.{Ghosts}
 use Rattle.codec.specs.Times.{Stamp}
 use Rattle.histories.specs.Queues.{Queue, After}
-use Rattle.histories.specs.Calls.{Call, Answer, Outcome}
+use Rattle.histories.specs.Calls.{Call, Answer, refused, collected, Outcome}
 use Rattle.histories.specs.Provider.{State}
 use Rattle.histories.specs.Ledger.{Event}
 use Rattle.provider.specs.Sessions.{settings-of, session-of}
@@ -45,3 +45,8 @@ pub record Leads (s : State) (o : Outcome) (a : Answer) (s′ : State) : Type 0 
 -- The caller's buffer afterwards: the octets copied at its front, its rest untouched.
 abbrev pub copied-into : List ℕ → List ℕ → List ℕ
 copied-into copied out = copied ++ drop (length copied) out
+
+-- The length of the oldest PDU that waits, or that none does.
+abbrev pub waiting-answer : List (List ℕ) → Answer
+waiting-answer [] = refused 30
+waiting-answer (pdu ∷ pdus) = collected (length pdu)

@@ -6,6 +6,7 @@ use crate::transfer_buffer::TransferBuffer;
 use codec::record::ProductionStatus;
 
 pub(crate) mod invocations;
+pub(crate) mod phases;
 
 // A provider's own part, apart from its queues: what it was opened with and how that ended; the phase of the
 // association; the last START's selection, and whether end of data has been put in since; the transfer buffer, and its
