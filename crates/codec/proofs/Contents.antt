@@ -16,6 +16,7 @@ use Rattle.std.proofs.shelf.Tests.{cases-bool}
 use Rattle.std.proofs.shelf.Lists.{append-nil, drop-all, take-at}
 use Rattle.codec.specs.Limits.{frameHeaderLength}
 use Rattle.codec.specs.Octets.{Octets}
+use Rattle.codec.specs.Blocks.{blockAt}
 use Rattle.codec.specs.Fields.{andThen}
 use Rattle.codec.specs.Records.{Record, encode}
 use Rattle.codec.specs.RecordReading.{Content, frameContent, lossContent, statusContent, endContent, contentOf, contentOr, contentIf, contentAt, recordOf, recordAt, oneRecord, said, saidOr, size}
@@ -97,12 +98,11 @@ content-read-or-faulty xs at (Ok c) e h = content-found xs at (said c) e h
 content-read-or-faulty xs at (Err f) e h = content-faulty xs at f e
 
 -- a record that was read, as the part that its octets are
-pub part-found : (xs : List ℕ) (at n : ℕ) (c : Content) → Octets xs → Ok c ≡ contentAt xs at → at + size c ≤ length xs → n ≡ size c
-    → Ok (record { octets = take (at + n - at) (drop at xs); place = at }) ≡ partAt xs at
-part-found xs at n c octets e h l =
-    let same : at + n - at ≡ size c = omega arith in
+pub part-found : (xs part : List ℕ) (at n : ℕ) (c : Content) → Octets xs → Ok c ≡ contentAt xs at → at + size c ≤ length xs → n ≡ size c → part ≡ blockAt xs at n
+    → Ok (record { octets = part; place = at }) ≡ partAt xs at
+part-found xs part at n c octets e h l p =
     let read = record-found xs at c e in
-    rw read (ap (λ z. Ok (record { octets = z; place = at })) (ap (λ k. take k (drop at xs)) same ∙ part-octets xs at c octets e h))
+    rw read (ap (λ z. Ok (record { octets = z; place = at })) (p ∙ ap (blockAt xs at) l ∙ part-octets xs at c octets e h))
 
 pub part-faulty : (xs : List ℕ) (at : ℕ) (f : Fault) → Err f ≡ contentAt xs at → Err f ≡ partAt xs at
 part-faulty xs at f e = let read = record-faulty xs at f e in rw read

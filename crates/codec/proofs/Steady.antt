@@ -35,11 +35,11 @@ pub record Steady {X : Type 0} (mark m : ℕ) (read : List ℕ → Result X Faul
   pub kept : (xs : List ℕ) (p : ℕ) → m ≤ p → p ≤ length xs → (x : X) → read xs ≡ Ok x → end x ≤ p → read (take p xs) ≡ Ok x
   pub cut : (xs : List ℕ) (p : ℕ) → m ≤ p → p ≤ length xs → (read (take p xs) ≡ read xs) ⊎ (read (take p xs) ≡ Err (fault Short p))
 
-ok-or-err : {X : Type 0} (r : Result X Fault) → ((x : X) × (r ≡ Ok x)) ⊎ ((e : Fault) × (r ≡ Err e))
+pub ok-or-err : {X : Type 0} (r : Result X Fault) → ((x : X) × (r ≡ Ok x)) ⊎ ((e : Fault) × (r ≡ Err e))
 ok-or-err (Ok x) = inl (x, refl)
 ok-or-err (Err e) = inr (e, refl)
 
-same-err : {X : Type 0} {d e : Fault} → _≡_ {A = Result X Fault} (Err d) (Err e) → d ≡ e
+pub same-err : {X : Type 0} {d e : Fault} → _≡_ {A = Result X Fault} (Err d) (Err e) → d ≡ e
 same-err h = cc
 
 module _ (mark : ℕ) where

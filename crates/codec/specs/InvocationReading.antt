@@ -3,12 +3,13 @@ use mathlib.Core.Bool.{Bool, cond}
 use mathlib.Core.List.{List}
 use Prim.Native.Nat.{ℕ, _+_}
 use lib.Dec.{leb, ltb, eqb}
-use lib.ListN.{length, take, drop}
+use lib.ListN.{length}
 use Rattle.std.specs.declared.option.Option.{Option}
 use Rattle.std.specs.declared.option.Option.the-variants.{Some, None}
 use Rattle.std.specs.declared.result.Result.{Result}
 use Rattle.std.specs.declared.result.Result.the-variants.{Ok, Err}
 use Rattle.codec.specs.Limits.{timeLength}
+use Rattle.codec.specs.Blocks.{blockAt}
 use Rattle.codec.specs.Times.{Stamp, stampIf}
 use Rattle.codec.specs.Fields.{fault, present, andThen, provided, orValueFault, octetAt, twoOctetsAt, stampAt}
 use Rattle.codec.specs.Invocations.{Request, start, stop, bind, unbind, abort, requested, identifierLengthAllowed, invocationMark, startOperation, stopOperation, bindOperation, unbindOperation, abortOperation}
@@ -57,7 +58,7 @@ versionAt xs at = andThen (octetAt xs at) (λ v. provided (leb 1 v) at (Ok v))
 abbrev pub identifierAt : List ℕ → ℕ → Result (List ℕ) Fault
 identifierAt xs at =
     andThen (octetAt xs at) (λ n.
-    provided (identifierLengthAllowed n) at (present xs (at + 1) n (take n (drop (at + 1) xs))))
+    provided (identifierLengthAllowed n) at (present xs (at + 1) n (blockAt xs (at + 1) n)))
 
 -- A request that ends at a place: octets behind it are left over.
 abbrev pub endingAt : List ℕ → ℕ → Request → Result Request Fault

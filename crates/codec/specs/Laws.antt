@@ -60,3 +60,36 @@ pub record Times-are-ordered : Type 0 where
   pub transitive : (a b c : Stamp) → compared a b ≡ Before → compared b c ≡ Before → compared a c ≡ Before
   pub same : (a b : Stamp) → compared a b ≡ Same → a ≡ b
   pub octets : (a b : Stamp) → compared a b ≡ Same → stampOctets a ≡ stampOctets b
+
+-- Where a fault of a PDU lies, and what stands before it. Too short: at the end. A wrong mark: behind records that
+-- read well. A wrong value: before its field the octets have no fault but that they end there.
+abbrev pub FaultOfRecords : List ℕ → FaultKind → ℕ → Type 0
+FaultOfRecords xs Short place = place ≡ length xs
+FaultOfRecords xs Mark place = (place < length xs) × ((rs : List Record) × (recordsIn (take place xs) ≡ Ok rs))
+FaultOfRecords xs Value place = (place < length xs) × (recordsIn (take place xs) ≡ Err (fault Short place))
+FaultOfRecords xs Extra place = ⊥
+
+abbrev pub Record-faults-have-their-place : Type 0
+Record-faults-have-their-place = (xs : List ℕ) (f : Fault) → recordsIn xs ≡ Err f → FaultOfRecords xs (f .kind) (f .place)
+
+-- The same of an invocation; octets left over stand behind octets that read as a request.
+abbrev pub FaultOfRequest : List ℕ → FaultKind → ℕ → Type 0
+FaultOfRequest xs Short place = place ≡ length xs
+FaultOfRequest xs Mark place = (place < length xs) × (requestIn (take place xs) ≡ Err (fault Short place))
+FaultOfRequest xs Value place = (place < length xs) × (requestIn (take place xs) ≡ Err (fault Short place))
+FaultOfRequest xs Extra place = (place < length xs) × ((r : Request) × (requestIn (take place xs) ≡ Ok r))
+
+abbrev pub Request-faults-have-their-place : Type 0
+Request-faults-have-their-place = (xs : List ℕ) (f : Fault) → requestIn xs ≡ Err f → FaultOfRequest xs (f .kind) (f .place)
+
+-- The formats at their limits, in octets and numbers.
+pub record Readings-at-the-limits : Type 0 where
+  pub shortFrame : encode (frame Good (record { day = 1; millisecond = 2; microsecond = 3 }) (0xAA ∷ 0xBB ∷ []))
+      ≡ 0x46 ∷ 0x52 ∷ 0x00 ∷ 0x00 ∷ 0x01 ∷ 0x00 ∷ 0x00 ∷ 0x00 ∷ 0x02 ∷ 0x00 ∷ 0x03 ∷ 0x00 ∷ 0x02 ∷ 0xAA ∷ 0xBB ∷ []
+  pub endOfDataOctets : encode endOfData ≡ 0x4E ∷ 0x54 ∷ 0x03 ∷ 0 ∷ 0 ∷ 0 ∷ 0 ∷ 0 ∷ 0 ∷ 0 ∷ 0 ∷ 0 ∷ []
+  pub lastTime : (d : ℕ) → checkedStamp d 86399999 999 ≡ Ok (record { day = d; millisecond = 86399999; microsecond = 999 })
+  pub millisecondBeyond : (d us : ℕ) → checkedStamp d 86400000 us ≡ Err Millisecond
+  pub microsecondBeyond : (d : ℕ) → checkedStamp d 86399999 1000 ≡ Err Microsecond
+  pub longestData : (q : Quality) (t : Stamp) (d : List ℕ) → length d ≡ 2048 → (room : ℕ) → 2061 ≤ room → writeAnswer room (frame q t d) ≡ Ok 2061
+  pub noData : (q : Quality) (t : Stamp) (room : ℕ) → writeAnswer room (frame q t []) ≡ Err DataLength
+  pub dataBeyond : (q : Quality) (t : Stamp) (d : List ℕ) → length d ≡ 2049 → (room : ℕ) → writeAnswer room (frame q t d) ≡ Err DataLength

@@ -1,8 +1,9 @@
 pub mod Limits
 pub mod Octets
+pub mod Blocks
+pub mod Faults
 pub mod Times
 pub mod Fields
-pub mod Blocks
 pub mod Records
 pub mod RecordReading
 pub mod Reader

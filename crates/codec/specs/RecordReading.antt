@@ -3,13 +3,14 @@ use mathlib.Core.Bool.{Bool, cond}
 use mathlib.Core.List.{List, [], _∷_}
 use Prim.Native.Nat.{ℕ, zero, suc, _+_}
 use lib.Dec.{leb, eqb}
-use lib.ListN.{length, take, drop}
+use lib.ListN.{length}
 use Rattle.std.specs.declared.option.Option.{Option}
 use Rattle.std.specs.declared.option.Option.the-variants.{Some, None}
 use Rattle.std.specs.declared.result.Result.{Result}
 use Rattle.std.specs.declared.result.Result.the-variants.{Ok, Err}
 use Rattle.std.specs.shelf.Text.{sameBytes}
 use Rattle.codec.specs.Limits.{timeLength, frameHeaderLength, notificationLength}
+use Rattle.codec.specs.Blocks.{blockAt}
 use Rattle.codec.specs.Times.{Stamp, stamp}
 use Rattle.codec.specs.Fields.{fault, present, andThen, provided, orValueFault, octetAt, twoOctetsAt, stampAt, zeroStampAt}
 use Rattle.codec.specs.Records.{Record, frame, loss, status, endOfData, frameMark, notificationMark, lossType, statusType, endOfDataType, dataLengthAllowed, encode}
@@ -125,7 +126,7 @@ contentAt xs at =
 
 -- The record of a content, a frame's data taken from behind its header.
 abbrev pub recordOf : List ℕ → ℕ → Content → Record
-recordOf xs at (frameContent q t n) = frame q t (take n (drop (at + frameHeaderLength) xs))
+recordOf xs at (frameContent q t n) = frame q t (blockAt xs (at + frameHeaderLength) n)
 recordOf xs at (lossContent t) = loss t
 recordOf xs at (statusContent s) = status s
 recordOf xs at endContent = endOfData

@@ -3,7 +3,6 @@ ghost use Prim.Native.Nat.{_≤_};
 ghost use lib.ListN.{length};
 ghost use Rattle.codec.specs.Fields.{octetAt, twoOctetsAt, fourOctetsAt};
 use crate::fault::Fault;
-use crate::fault::FaultKind;
 
 // The field of one octet at a place.
 pub(crate) fn octet_at(input: &[u8], place: usize) -> Result<u8, Fault>
@@ -11,10 +10,7 @@ pub(crate) fn octet_at(input: &[u8], place: usize) -> Result<u8, Fault>
     ensures { λ r. ⌜ r ≡ octetAt (now (input .entry)) place ⌝ }
 {
     if input.len() - place < 1 {
-        return Err(Fault {
-            kind: FaultKind::Short,
-            place: input.len(),
-        });
+        return Err(Fault::short(input));
     }
     Ok(input[place])
 }
@@ -25,10 +21,7 @@ pub(crate) fn two_octets_at(input: &[u8], place: usize) -> Result<u16, Fault>
     ensures { λ r. ⌜ r ≡ twoOctetsAt (now (input .entry)) place ⌝ }
 {
     if input.len() - place < 2 {
-        return Err(Fault {
-            kind: FaultKind::Short,
-            place: input.len(),
-        });
+        return Err(Fault::short(input));
     }
     Ok(u16::from_be_bytes([input[place], input[place + 1]]))
 }
@@ -39,10 +32,7 @@ pub(crate) fn four_octets_at(input: &[u8], place: usize) -> Result<u32, Fault>
     ensures { λ r. ⌜ r ≡ fourOctetsAt (now (input .entry)) place ⌝ }
 {
     if input.len() - place < 4 {
-        return Err(Fault {
-            kind: FaultKind::Short,
-            place: input.len(),
-        });
+        return Err(Fault::short(input));
     }
     Ok(u32::from_be_bytes([
         input[place],

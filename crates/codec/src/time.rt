@@ -2,6 +2,7 @@ ghost use Prim.Native.Nat.{_≤_};
 ghost use Rattle.codec.specs.Limits.{millisecondLimit, microsecondLimit};
 
 mod methods;
+mod numbers;
 pub(crate) mod read;
 
 // The last millisecond of a day, and the last microsecond of a millisecond.

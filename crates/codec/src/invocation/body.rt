@@ -10,8 +10,8 @@ use super::LONGEST_IDENTIFIER;
 use super::RequestedQuality;
 use super::SHORTEST_IDENTIFIER;
 use super::UnbindReason;
+use crate::blocks::block_at;
 use crate::fault::Fault;
-use crate::fault::FaultKind;
 use crate::fields::octet_at;
 use crate::time::TIME_LENGTH;
 use crate::time::Time;
@@ -23,10 +23,7 @@ fn requested_quality_at(input: &[u8], place: usize) -> Result<RequestedQuality, 
 {
     match RequestedQuality::from_octet(octet_at(input, place)?) {
         Some(quality) => Ok(quality),
-        None => Err(Fault {
-            kind: FaultKind::Value,
-            place,
-        }),
+        None => Err(Fault::value(place)),
     }
 }
 
@@ -36,10 +33,7 @@ fn reason_at(input: &[u8], place: usize) -> Result<UnbindReason, Fault>
 {
     match UnbindReason::from_octet(octet_at(input, place)?) {
         Some(reason) => Ok(reason),
-        None => Err(Fault {
-            kind: FaultKind::Value,
-            place,
-        }),
+        None => Err(Fault::value(place)),
     }
 }
 
@@ -51,10 +45,7 @@ fn optional_time_at(input: &[u8], place: usize) -> Result<Option<Time>, Fault>
     match octet_at(input, place)? {
         0 => Ok(None),
         1 => Ok(Some(time_at(input, place + 1)?)),
-        _ => Err(Fault {
-            kind: FaultKind::Value,
-            place,
-        }),
+        _ => Err(Fault::value(place)),
     }
 }
 
@@ -64,10 +55,7 @@ fn version_at(input: &[u8], place: usize) -> Result<u8, Fault>
 {
     let version = octet_at(input, place)?;
     if version < 1 {
-        return Err(Fault {
-            kind: FaultKind::Value,
-            place,
-        });
+        return Err(Fault::value(place));
     }
     Ok(version)
 }
@@ -79,19 +67,13 @@ fn identifier_at(input: &[u8], place: usize) -> Result<Identifier, Fault>
 {
     let count = octet_at(input, place)? as usize;
     if count < SHORTEST_IDENTIFIER || count > LONGEST_IDENTIFIER {
-        return Err(Fault {
-            kind: FaultKind::Value,
-            place,
-        });
+        return Err(Fault::value(place));
     }
     let start = place + 1;
     if input.len() - start < count {
-        return Err(Fault {
-            kind: FaultKind::Short,
-            place: input.len(),
-        });
+        return Err(Fault::short(input));
     }
-    Ok(Identifier::of_octets(&input[start..start + count]))
+    Ok(Identifier::of_octets(block_at(input, start, count)))
 }
 
 // An invocation that ends at a place: octets behind it are left over.
@@ -99,10 +81,7 @@ fn ending_at(input: &[u8], place: usize, invocation: Invocation) -> Result<Invoc
     ensures { λ r. ⌜ requestedOr r ≡ endingAt (now (input .entry)) place (requested invocation) ⌝ }
 {
     if place < input.len() {
-        return Err(Fault {
-            kind: FaultKind::Extra,
-            place,
-        });
+        return Err(Fault::extra(place));
     }
     Ok(invocation)
 }

@@ -8,6 +8,7 @@ use super::Identifier;
 use super::LONGEST_IDENTIFIER;
 use super::SHORTEST_IDENTIFIER;
 use crate::blocks::place_block;
+use crate::blocks::same_block;
 
 impl Identifier {
     // The identifier of these octets, if an identifier may have so many.
@@ -44,6 +45,6 @@ impl Identifier {
     pub fn same(&self, other: &Identifier) -> bool
         ensures { λ r. ⌜ r ≡ sameBytes (named (now (self .entry))) (named (now (other .entry))) ⌝ }
     {
-        self.octets() == other.octets()
+        same_block(self.octets(), other.octets())
     }
 }

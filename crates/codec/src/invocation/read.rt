@@ -9,7 +9,6 @@ use super::body::start_at;
 use super::body::stop_at;
 use super::body::unbind_at;
 use crate::fault::Fault;
-use crate::fault::FaultKind;
 
 // The two octets of an invocation's mark, and the numbers of the operations.
 const MARK_HIGH: u8 = 0x49;
@@ -56,20 +55,9 @@ pub fn read_invocation(octets: &[u8]) -> Result<Invocation, Fault>
         [MARK_HIGH, MARK_LOW, START | STOP | BIND | UNBIND, ..]
         | [MARK_HIGH, MARK_LOW]
         | [_]
-        | [] => {
-            Err(Fault {
-                kind: FaultKind::Short,
-                place: length,
-            })
-        }
-        [MARK_HIGH, MARK_LOW, ..] => Err(Fault {
-            kind: FaultKind::Value,
-            place: 2,
-        }),
-        _ => Err(Fault {
-            kind: FaultKind::Mark,
-            place: 0,
-        }),
+        | [] => Err(Fault::short(octets)),
+        [MARK_HIGH, MARK_LOW, ..] => Err(Fault::value(2)),
+        _ => Err(Fault::mark(0)),
     }
 }
 

@@ -1,12 +1,13 @@
 ghost use mathlib.Core.Path.{_≡_};
-ghost use Rattle.codec.specs.Invocations.{requestedQualityOctet, reasonOctet};
+ghost use Rattle.codec.specs.Invocations.{requestedQualityOctet, reasonOctet, number};
 ghost use Rattle.codec.specs.InvocationReading.{requestedQualityOf, reasonOf};
+use super::InvocationFault;
 use super::RequestedQuality;
 use super::UnbindReason;
 
 impl RequestedQuality {
     // The requested quality that an octet stands for.
-    pub fn from_octet(octet: u8) -> Option<RequestedQuality>
+    pub(super) fn from_octet(octet: u8) -> Option<RequestedQuality>
         ensures { λ r. ⌜ r ≡ requestedQualityOf octet ⌝ }
     {
         match octet {
@@ -31,7 +32,7 @@ impl RequestedQuality {
 
 impl UnbindReason {
     // The reason to unbind that an octet stands for.
-    pub fn from_octet(octet: u8) -> Option<UnbindReason>
+    pub(super) fn from_octet(octet: u8) -> Option<UnbindReason>
         ensures { λ r. ⌜ r ≡ reasonOf octet ⌝ }
     {
         match octet {
@@ -52,6 +53,23 @@ impl UnbindReason {
             UnbindReason::Suspend => 1,
             UnbindReason::VersionNotSupported => 2,
             UnbindReason::Other => 127,
+        }
+    }
+}
+
+impl InvocationFault {
+    // The number under which the refusal is answered.
+    pub fn number(self) -> u8
+        ensures { λ r. ⌜ r ≡ number self ⌝ }
+    {
+        match self {
+            InvocationFault::Undecodable(_) => 20,
+            InvocationFault::ProtocolError => 21,
+            InvocationFault::AccessDenied => 22,
+            InvocationFault::VersionNotSupported => 23,
+            InvocationFault::InvalidStopTime => 24,
+            InvocationFault::OutOfService => 25,
+            InvocationFault::NoAssociation => 26,
         }
     }
 }

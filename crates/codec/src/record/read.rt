@@ -16,7 +16,6 @@ use super::marks::LOSS_TYPE;
 use super::marks::NOTIFICATION_MARK;
 use super::marks::STATUS_TYPE;
 use crate::fault::Fault;
-use crate::fault::FaultKind;
 use crate::fields::octet_at;
 use crate::fields::two_octets_at;
 use crate::time::TIME_LENGTH;
@@ -25,7 +24,7 @@ use crate::time::read::zero_time_at;
 
 impl RecordContent {
     // How many octets the record has.
-    pub fn record_length(&self) -> usize
+    pub(crate) fn record_length(&self) -> usize
         ensures { λ r. ⌜ r ≡ size (said (now (self .entry))) ⌝ }
     {
         match self {
@@ -64,10 +63,7 @@ fn quality_at(input: &[u8], place: usize) -> Result<Quality, Fault>
 {
     match Quality::from_octet(octet_at(input, place)?) {
         Some(quality) => Ok(quality),
-        None => Err(Fault {
-            kind: FaultKind::Value,
-            place,
-        }),
+        None => Err(Fault::value(place)),
     }
 }
 
@@ -77,10 +73,7 @@ fn status_at(input: &[u8], place: usize) -> Result<ProductionStatus, Fault>
 {
     match ProductionStatus::from_octet(octet_at(input, place)?) {
         Some(status) => Ok(status),
-        None => Err(Fault {
-            kind: FaultKind::Value,
-            place,
-        }),
+        None => Err(Fault::value(place)),
     }
 }
 
@@ -90,10 +83,7 @@ fn zero_at(input: &[u8], place: usize) -> Result<(), Fault>
     ensures { λ r. ⌜ r ≡ zeroAt (now (input .entry)) place ⌝ }
 {
     if octet_at(input, place)? != 0 {
-        return Err(Fault {
-            kind: FaultKind::Value,
-            place,
-        });
+        return Err(Fault::value(place));
     }
     Ok(())
 }
@@ -105,16 +95,10 @@ fn data_length_at(input: &[u8], place: usize) -> Result<u16, Fault>
 {
     let length = two_octets_at(input, place)?;
     if length < 1 || length as usize > DATA_LIMIT {
-        return Err(Fault {
-            kind: FaultKind::Value,
-            place,
-        });
+        return Err(Fault::value(place));
     }
     if input.len() - (place + 2) < length as usize {
-        return Err(Fault {
-            kind: FaultKind::Short,
-            place: input.len(),
-        });
+        return Err(Fault::short(input));
     }
     Ok(length)
 }
@@ -178,10 +162,7 @@ fn notification_at(input: &[u8], place: usize) -> Result<RecordContent, Fault>
         LOSS_TYPE => loss_at(input, place),
         STATUS_TYPE => status_change_at(input, place),
         END_OF_DATA_TYPE => end_of_data_at(input, place),
-        _ => Err(Fault {
-            kind: FaultKind::Value,
-            place: place + 2,
-        }),
+        _ => Err(Fault::value(place + 2)),
     }
 }
 
@@ -194,9 +175,6 @@ pub(crate) fn content_at(input: &[u8], place: usize) -> Result<RecordContent, Fa
     match two_octets_at(input, place)? {
         FRAME_MARK => frame_at(input, place),
         NOTIFICATION_MARK => notification_at(input, place),
-        _ => Err(Fault {
-            kind: FaultKind::Mark,
-            place,
-        }),
+        _ => Err(Fault::mark(place)),
     }
 }

@@ -6,6 +6,7 @@ ghost use Rattle.codec.specs.Reader.{partOr, partIfOr, partAt, nextPart, nextC
 use super::RecordPart;
 use super::RecordReader;
 use super::read::content_at;
+use crate::blocks::block_at;
 use crate::fault::Fault;
 
 impl<'a> RecordReader<'a> {
@@ -41,9 +42,8 @@ fn part_at<'a>(input: &'a [u8], place: usize) -> Result<RecordPart<'a>, Fault>
     ensures inside { λ r. ⌜ made r (λ part. place + length (now (part .octets)) ≤ length (now (input .entry))) ⌝ }
 {
     let content = content_at(input, place)?;
-    let end = place + content.record_length();
     Ok(RecordPart {
-        octets: &input[place..end],
+        octets: block_at(input, place, content.record_length()),
         place,
     })
 }

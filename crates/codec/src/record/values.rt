@@ -43,7 +43,7 @@ impl ProductionStatus {
     }
 
     // The octet that stands for the production status.
-    pub fn octet(self) -> u8
+    pub(crate) fn octet(self) -> u8
         ensures { λ r. ⌜ r ≡ statusOctet self ⌝ }
     {
         match self {

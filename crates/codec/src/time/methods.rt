@@ -26,7 +26,7 @@ impl Time {
     }
 
     // The time whose numbers are all zero.
-    pub fn zero() -> Time
+    pub(crate) fn zero() -> Time
         ensures { λ r. ⌜ stamp r ≡ zeroStamp ⌝ }
     {
         Time {
@@ -34,24 +34,6 @@ impl Time {
             millisecond: 0,
             microsecond: 0,
         }
-    }
-
-    pub fn day(&self) -> u16
-        ensures { λ r. ⌜ r ≡ stamp (now (self .entry)) .day ⌝ }
-    {
-        self.day
-    }
-
-    pub fn millisecond(&self) -> u32
-        ensures { λ r. ⌜ r ≡ stamp (now (self .entry)) .millisecond ⌝ }
-    {
-        self.millisecond
-    }
-
-    pub fn microsecond(&self) -> u16
-        ensures { λ r. ⌜ r ≡ stamp (now (self .entry)) .microsecond ⌝ }
-    {
-        self.microsecond
     }
 
     // Whether this time is before the other, the same or after it: by the fields in turn.

@@ -7,7 +7,6 @@ use super::MICROSECOND_LIMIT;
 use super::MILLISECOND_LIMIT;
 use super::Time;
 use crate::fault::Fault;
-use crate::fault::FaultKind;
 use crate::fields::four_octets_at;
 use crate::fields::two_octets_at;
 
@@ -19,17 +18,11 @@ pub(crate) fn time_at(input: &[u8], place: usize) -> Result<Time, Fault>
     let day = two_octets_at(input, place)?;
     let millisecond = four_octets_at(input, place + 2)?;
     if millisecond > MILLISECOND_LIMIT {
-        return Err(Fault {
-            kind: FaultKind::Value,
-            place: place + 2,
-        });
+        return Err(Fault::value(place + 2));
     }
     let microsecond = two_octets_at(input, place + 6)?;
     if microsecond as u32 > MICROSECOND_LIMIT {
-        return Err(Fault {
-            kind: FaultKind::Value,
-            place: place + 6,
-        });
+        return Err(Fault::value(place + 6));
     }
     Ok(Time {
         day,
@@ -44,22 +37,13 @@ pub(crate) fn zero_time_at(input: &[u8], place: usize) -> Result<(), Fault>
     ensures { λ r. ⌜ r ≡ zeroStampAt (now (input .entry)) place ⌝ }
 {
     if two_octets_at(input, place)? != 0 {
-        return Err(Fault {
-            kind: FaultKind::Value,
-            place,
-        });
+        return Err(Fault::value(place));
     }
     if four_octets_at(input, place + 2)? != 0 {
-        return Err(Fault {
-            kind: FaultKind::Value,
-            place: place + 2,
-        });
+        return Err(Fault::value(place + 2));
     }
     if two_octets_at(input, place + 6)? != 0 {
-        return Err(Fault {
-            kind: FaultKind::Value,
-            place: place + 6,
-        });
+        return Err(Fault::value(place + 6));
     }
     Ok(())
 }

@@ -55,42 +55,10 @@ pub returns-in-73-7 : need.returns-in-73-7
 unfolding requestIn
 returns-in-73-7 c = search needs
 
-pub returns-in-73-7·2 : need.returns-in-73-7·2
-unfolding requestIn
-returns-in-73-7·2 c = search needs
-
 pub returns-in-rest : need.returns-in-rest
 unfolding requestIn
 returns-in-rest c = search needs
 
-pub returns-in-rest·2 : need.returns-in-rest·2
-unfolding requestIn
-returns-in-rest·2 c = search needs
-
-pub returns-in-rest·3 : need.returns-in-rest·3
-unfolding requestIn
-returns-in-rest·3 c = search needs
-
-pub returns-in-rest·4 : need.returns-in-rest·4
-unfolding requestIn
-returns-in-rest·4 c = search needs
-
-pub returns-in-rest·5 : need.returns-in-rest·5
-unfolding requestIn
-returns-in-rest·5 c = search needs
-
-pub returns-in-rest·6 : need.returns-in-rest·6
-unfolding requestIn
-returns-in-rest·6 c = search needs
-
 pub returns-in-73-6 : need.returns-in-73-6
 unfolding requestIn
 returns-in-73-6 c = search needs
-
-pub returns-in-73-6·2 : need.returns-in-73-6·2
-unfolding requestIn
-returns-in-73-6·2 c = search needs
-
-pub returns-in-73-6·3 : need.returns-in-73-6·3
-unfolding requestIn
-returns-in-73-6·3 c = search needs

@@ -1,4 +1,4 @@
-use borrow.Author.Needs.{needs}
+use native.Mathlib.Omega.{arith}
 use Rattle.std.proofs.shelf.Results.{err-from-errBy}
 use Rattle.codec.proofs.Slices.{octets-of}
 use Rattle.codec.proofs.Contents.{part-found, part-faulty}
@@ -11,6 +11,6 @@ returns-in-Break-content c =
 
 pub returns : need.returns
 returns c = record {
-  part = part-found (c .args .input .now) (c .args .place) (c .record-length .result) _ (octets-of _ (c .typed .input)) (c .in-Continue-content .ensures tt .content) (c .in-Continue-content .ensures tt .fits) (c .record-length .ensures);
-  inside = search needs;
+  part = part-found (c .args .input .now) (c .block-at .result .now) (c .args .place) (c .record-length .result) _ (octets-of _ (c .typed .input)) (c .in-Continue-content .ensures tt .content) (c .in-Continue-content .ensures tt .fits) (c .record-length .ensures) (c .block-at .ensures .octets);
+  inside = omega (arith, c .block-at .ensures .long, c .record-length .ensures, c .in-Continue-content .ensures tt .fits);
 }

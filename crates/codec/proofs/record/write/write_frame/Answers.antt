@@ -13,7 +13,7 @@ returns-then-record-length-out c =
     let q = c .args .quality in
     let t = stamp (c .args .time) in
     let d = c .args .«data» .now in
-    let allowed = frame-writable q t d (c .if-data-length-lt1 .left) (c .if-data-length-gt-DATA-LIMIT .left) in
+    let allowed = frame-writable q t d (omega arith) (omega arith) in
     record {
       answer = too-short (length (c .args .out .now)) (frame q t d) allowed (omega (arith, frame-length q t d));
       buffer = refl;
@@ -24,7 +24,7 @@ returns c =
     let q = c .args .quality in
     let t = stamp (c .args .time) in
     let d = c .args .«data» .now in
-    let allowed = frame-writable q t d (c .if-data-length-lt1 .left) (c .if-data-length-gt-DATA-LIMIT .left) in
+    let allowed = frame-writable q t d (omega arith) (omega arith) in
     let octets = ap (λ h. h ++ d) (c .frame-header-header .ensures) ∙ sym (frame-octets q t d) in
     record {
       answer = fits (length (c .args .out .now)) _ (frame q t d) allowed (sym (frame-length q t d)) (c .if-record-length-out .left);

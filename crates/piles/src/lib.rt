@@ -1,0 +1,4 @@
+pub mod memory;
+pub mod nesting;
+pub mod player;
+pub mod shape;

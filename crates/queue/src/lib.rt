@@ -1,0 +1,5 @@
+pub mod carry;
+pub mod interface;
+pub mod lent;
+pub mod meaning;
+pub mod refusal;

@@ -1,0 +1,4 @@
+pub mod Writing
+pub mod Turning
+pub mod Elements
+pub mod Granted

@@ -1,0 +1,4 @@
+pub mod Parts
+pub mod Memories
+pub mod Turns
+pub mod Rings

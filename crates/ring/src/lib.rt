@@ -1,0 +1,4 @@
+mod block;
+pub mod memory;
+pub mod ring;
+mod round;
