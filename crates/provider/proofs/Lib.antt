@@ -1,4 +1,7 @@
 pub mod Contents
 pub mod Buffers
 pub mod Queues
+pub mod Claims
 pub mod Sending
+pub mod Ticking
+pub mod Collecting

@@ -32,3 +32,12 @@ module _ (s : Session) (transport : Queue) where
   pub waits : transport .room (length (transferPdu (s .buffer))) ≡ false → send s transport ≡ says s waiting
   unfolding sendFirst
   waits room = rw (all-taken, room)
+
+  pub copies-nothing : [] ≡ send s transport .copied
+  unfolding sendFirst
+  copies-nothing = either (transport .room (length (transferPdu (take (length (s .buffer)) (s .buffer)))))
+    where
+      either : (b : Bool)
+          → [] ≡ cond b (record { answer = sent; copied = []; session = holding (drop (length (s .buffer)) (s .buffer)) s; onFrames = keep; onTransport = add (transferPdu (take (length (s .buffer)) (s .buffer))) }) (says s waiting) .copied
+      either true = refl
+      either false = refl

@@ -9,6 +9,8 @@ use Rattle.histories.specs.Queues.{Queue, After}
 use Rattle.histories.specs.Calls.{Call, Answer, refused, collected, Outcome}
 use Rattle.histories.specs.Provider.{State}
 use Rattle.histories.specs.Ledger.{Event}
+use Rattle.histories.specs.Histories.{Step}
+use Rattle.histories.specs.Statements.{Continues}
 use Rattle.provider.specs.Sessions.{settings-of, session-of}
 use Rattle.provider.specs.declared.provider.Provider.{Provider}
 
@@ -50,3 +52,9 @@ copied-into copied out = copied ++ drop (length copied) out
 abbrev pub waiting-answer : List (List ℕ) → Answer
 waiting-answer [] = refused 30
 waiting-answer (pdu ∷ pdus) = collected (length pdu)
+
+-- A call does what is defined, and so goes on with whatever history led to it: all that is claimed of histories holds
+-- after it.
+pub record Called (s : State) (e : Event) (s′ : State) : Type 0 where
+  pub step : Step s e s′
+  pub claim : Continues s e s′

@@ -1,6 +1,7 @@
 use crate::session::Session;
 
 pub(crate) mod delivery;
+pub(crate) mod reception;
 
 // The provider end of a service instance, between a frame buffer and a transport.
 #[derive(Drop)]

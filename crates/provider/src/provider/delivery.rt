@@ -5,10 +5,8 @@ ghost use lib.ListN.{length};
 ghost use Rattle.histories.specs.Calls.{sent, waiting, tick, collect};
 ghost use Rattle.histories.specs.Delivery.{send};
 ghost use Rattle.histories.specs.Provider.{outcome};
-ghost use Rattle.histories.specs.Histories.{Step};
-ghost use Rattle.histories.specs.Statements.{Continues};
 ghost use Rattle.provider.specs.Answers.{tick-answer, collection-answer};
-ghost use Rattle.provider.specs.States.{state-of, event, Leads, copied-into, waiting-answer};
+ghost use Rattle.provider.specs.States.{state-of, event, Leads, Called, copied-into, waiting-answer};
 use super::Provider;
 use crate::answer::CollectionRefusal;
 use crate::answer::TickAnswer;
@@ -33,11 +31,12 @@ impl<F: Queue, T: Queue> Provider<F, T> {
     // A tick of the receiver's clock: while active, records in the transfer buffer grow older, and at the latency
     // limit they are sent.
     pub fn tick(&mut self) -> TickAnswer
-        ensures step { λ r. ⌜ Step (state-of F·Meaning T·Meaning (now (self .entry))) (event tick (tick-answer r) []) (state-of F·Meaning T·Meaning (now (self .exit))) ⌝ }
-        ensures claim { λ r. ⌜ Continues (state-of F·Meaning T·Meaning (now (self .entry))) (event tick (tick-answer r) []) (state-of F·Meaning T·Meaning (now (self .exit))) ⌝ }
+        ensures { λ r. ⌜ Called (state-of F·Meaning T·Meaning (now (self .entry))) (event tick (tick-answer r) []) (state-of F·Meaning T·Meaning (now (self .exit))) ⌝ }
     {
-        let active = self.session.is_active();
-        if !active || self.session.buffer.count == 0 {
+        if !self.session.is_active() {
+            return TickAnswer::Quiet;
+        }
+        if self.session.buffer.count == 0 {
             return TickAnswer::Quiet;
         }
         let age = self.session.age.saturating_add(1);
@@ -63,11 +62,12 @@ impl<F: Queue, T: Queue> Provider<F, T> {
 
     // Copies the oldest PDU that waits in the transport into the front of a buffer, and drops it there.
     pub fn collect(&mut self, out: &mut [u8]) -> Result<usize, CollectionRefusal>
-        ensures step { λ r. ⌜ Step (state-of F·Meaning T·Meaning (now (self .entry))) (event (collect (length (now (out .entry)))) (collection-answer r) (outcome (state-of F·Meaning T·Meaning (now (self .entry))) (collect (length (now (out .entry)))) .copied)) (state-of F·Meaning T·Meaning (now (self .exit))) ⌝ }
+        ensures call { λ r. ⌜ Called (state-of F·Meaning T·Meaning (now (self .entry))) (event (collect (length (now (out .entry)))) (collection-answer r) (outcome (state-of F·Meaning T·Meaning (now (self .entry))) (collect (length (now (out .entry)))) .copied)) (state-of F·Meaning T·Meaning (now (self .exit))) ⌝ }
         ensures buffer { λ _. ⌜ now (out .exit) ≡ copied-into (outcome (state-of F·Meaning T·Meaning (now (self .entry))) (collect (length (now (out .entry)))) .copied) (now (out .entry)) ⌝ }
-        ensures claim { λ r. ⌜ Continues (state-of F·Meaning T·Meaning (now (self .entry))) (event (collect (length (now (out .entry)))) (collection-answer r) (outcome (state-of F·Meaning T·Meaning (now (self .entry))) (collect (length (now (out .entry)))) .copied)) (state-of F·Meaning T·Meaning (now (self .exit))) ⌝ }
     {
-        let length = self.waiting_length()?;
+        let Ok(length) = self.transport.first_length() else {
+            return Err(CollectionRefusal::NothingWaits);
+        };
         if length > out.len() {
             return Err(CollectionRefusal::BufferTooShort);
         }
