@@ -5,3 +5,4 @@ pub mod Claims
 pub mod Sending
 pub mod Ticking
 pub mod Collecting
+pub mod Receiving

@@ -1,11 +1,12 @@
 -- The code's provider over two queues, as the provider's definition has it, and what a call leads to.
 use mathlib.Core.Path.{_≡_}
+use mathlib.Core.Bool.{Bool, cond}
 use mathlib.Core.List.{List, [], _∷_, _++_}
 use Prim.Native.Nat.{ℕ}
 use lib.ListN.{length, drop}
 use Rattle.queue.specs.declared.meaning.Meaning.{Ghosts}
 use Rattle.codec.specs.Times.{Stamp}
-use Rattle.histories.specs.Queues.{Queue, After}
+use Rattle.histories.specs.Queues.{Queue, After, keep, add}
 use Rattle.histories.specs.Calls.{Call, Answer, refused, collected, Outcome}
 use Rattle.histories.specs.Provider.{State}
 use Rattle.histories.specs.Ledger.{Event}
@@ -58,3 +59,12 @@ waiting-answer (pdu ∷ pdus) = collected (length pdu)
 pub record Called (s : State) (e : Event) (s′ : State) : Type 0 where
   pub step : Step s e s′
   pub claim : Continues s e s′
+
+-- Octets offered to the frame buffer were taken if it had room for them; all else stays.
+pub record Offered (s : State) (octets : List ℕ) (taken : Bool) (s′ : State) : Type 0 where
+  pub room : taken ≡ s .frames .room (length octets)
+  pub frames : After (s .frames) (cond taken (add octets) keep) (s′ .frames)
+  pub settings : s′ .settings ≡ s .settings
+  pub opening : s′ .opening ≡ s .opening
+  pub session : s′ .session ≡ s .session
+  pub transport : s′ .transport ≡ s .transport

@@ -46,7 +46,11 @@ impl<F: Queue, T: Queue> Provider<F, T> {
             return TickAnswer::Quiet;
         }
         self.session.age = limit;
-        if self.send() { TickAnswer::Sent } else { TickAnswer::Waiting }
+        if self.send() {
+            TickAnswer::Sent
+        } else {
+            TickAnswer::Waiting
+        }
     }
 
     // The length of the oldest PDU that waits in the transport.

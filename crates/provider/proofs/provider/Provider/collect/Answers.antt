@@ -20,7 +20,7 @@ returns-in-rest g c =
     let comes = nothing-waits s size (q .held (p .transport)) (number (c .in-rest .field-0)) (c .in-rest .ensures tt .answer) in
     record {
       call = called (state-of (g .F·Meaning) q p) _ (collect size) (refused 30) _ (refuses s 30) comes (ap (λ o. o .copied) comes)
-        (record { answer = refl; settings = refl; opening = refl; session = refl; frames = refl; transport = kept-queue q (p .transport) (c .first-length .last .self) (c .first-length .ensures .kept) });
+          (record { answer = refl; settings = refl; opening = refl; session = refl; frames = refl; transport = kept-queue q (p .transport) (c .first-length .last .self) (c .first-length .ensures .kept) });
       buffer = sym (ap (λ o. copied-into (o .copied) (c .args .out .now)) comes);
     }
 
@@ -33,7 +33,7 @@ returns-then-length-out g c =
     let comes = too-short s size (q .held (p .transport)) (c .in-Ok .length) (c .in-Ok .ensures tt .answer) (omega arith) in
     record {
       call = called (state-of (g .F·Meaning) q p) _ (collect size) (refused 34) _ (refuses s 34) comes (ap (λ o. o .copied) comes)
-        (record { answer = refl; settings = refl; opening = refl; session = refl; frames = refl; transport = kept-queue q (p .transport) (c .first-length .last .self) (c .first-length .ensures .kept) });
+          (record { answer = refl; settings = refl; opening = refl; session = refl; frames = refl; transport = kept-queue q (p .transport) (c .first-length .last .self) (c .first-length .ensures .kept) });
       buffer = sym (ap (λ o. copied-into (o .copied) (c .args .out .now)) comes);
     }
 
@@ -48,14 +48,14 @@ returns g c =
     let did = collects s (length out) (q .held (p .transport)) (c .in-Ok .length) out (c .read-from .last .out) (c .in-Ok .ensures tt .answer) (omega arith) refl (c .read-from .ensures .buffer ∙ ap (λ h. read-buffer h 0 out) (first .list)) in
     record {
       call = called (state-of (g .F·Meaning) q p) _ (collect (length out)) (collected (c .in-Ok .length)) _ (collecting s (did .0)) (did .2) (ap (λ o. o .copied) (did .2))
-        (record {
-          answer = ap collected (sym (did .1));
-          settings = refl;
-          opening = refl;
-          session = refl;
-          frames = refl;
-          transport = dropped-queue q (g .T·Meaning·met .vacant) (g .T·Meaning·met .bounded) (p .transport) (c .drop .last .self) (c .in-Ok .length) (c .in-Ok .ensures tt .answer)
-            (c .drop .ensures .left .list ∙ ap rest (read .list ∙ first .list)) (c .drop .ensures .left .most ∙ read .most ∙ first .most);
-        });
+          (record {
+            answer = ap collected (sym (did .1));
+            settings = refl;
+            opening = refl;
+            session = refl;
+            frames = refl;
+            transport = dropped-queue q (g .T·Meaning·met .vacant) (g .T·Meaning·met .bounded) (p .transport) (c .drop .last .self) (c .in-Ok .length) (c .in-Ok .ensures tt .answer)
+                (c .drop .ensures .left .list ∙ ap rest (read .list ∙ first .list)) (c .drop .ensures .left .most ∙ read .most ∙ first .most);
+          });
       buffer = did .3 ∙ sym (ap (λ o. copied-into (o .copied) out) (did .2));
     }

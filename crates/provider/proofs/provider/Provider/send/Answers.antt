@@ -26,7 +26,7 @@ returns-in-Ok g c =
     let pdu = pdu-is (p .session .buffer) in
     let told = c .in-Ok .ensures tt in
     let room : q .room t (length (transferPdu (records-of (p .session .buffer)))) ≡ true =
-      ap (λ x. q .room t (length x)) (sym pdu) ∙ was-room (q .largest t) (q .room t) (length (take (p .session .buffer .used - 0) (p .session .buffer .octets))) (told .answer) in
+    ap (λ x. q .room t (length x)) (sym pdu) ∙ was-room (q .largest t) (q .room t) (length (take (p .session .buffer .used - 0) (p .session .buffer .octets))) (told .answer) in
     leads-by _ _ _ _ _ (sends (session-of (p .session)) (queue-of q t) room)
     (record {
       answer = refl;
@@ -35,7 +35,7 @@ returns-in-Ok g c =
       session = ap (λ rs. holding rs (session-of (p .session))) (c .clear .ensures .none);
       frames = refl;
       transport = added-queue q (g .T·Meaning·met .vacant) (g .T·Meaning·met .bounded) t (c .add .last .self) (transferPdu (records-of (p .session .buffer))) room
-        (told .left .list ∙ ap (add-list (q .largest t) (q .room t) (q .held t)) pdu) (told .left .most);
+          (told .left .list ∙ ap (add-list (q .largest t) (q .room t) (q .held t)) pdu) (told .left .most);
     })
 
 pub returns-in-Err : need.returns-in-Err
@@ -46,8 +46,8 @@ returns-in-Err g c =
     let pdu = pdu-is (p .session .buffer) in
     let told = c .in-Err .ensures tt in
     let none : q .room t (length (transferPdu (records-of (p .session .buffer)))) ≡ false =
-      ap (λ x. q .room t (length x)) (sym pdu)
-      ∙ was-no-room (q .largest t) (q .room t) (length (take (p .session .buffer .used - 0) (p .session .buffer .octets))) (number (c .in-Err .field-0)) (g .T·Meaning·met .bounded t) (told .answer) in
+    ap (λ x. q .room t (length x)) (sym pdu)
+    ∙ was-no-room (q .largest t) (q .room t) (length (take (p .session .buffer .used - 0) (p .session .buffer .octets))) (number (c .in-Err .field-0)) (g .T·Meaning·met .bounded t) (told .answer) in
     leads-by _ _ _ _ _ (waits (session-of (p .session)) (queue-of q t) none)
     (record {
       answer = refl;
@@ -56,5 +56,5 @@ returns-in-Err g c =
       session = refl;
       frames = refl;
       transport = refused-queue q (g .T·Meaning·met .vacant) (g .T·Meaning·met .bounded) t (c .add .last .self) (transferPdu (records-of (p .session .buffer))) none
-        (told .left .list ∙ ap (add-list (q .largest t) (q .room t) (q .held t)) pdu) (told .left .most) (told .left .space tt);
+          (told .left .list ∙ ap (add-list (q .largest t) (q .room t) (q .held t)) pdu) (told .left .most) (told .left .space tt);
     })
