@@ -6,3 +6,4 @@ pub mod Sending
 pub mod Ticking
 pub mod Collecting
 pub mod Receiving
+pub mod Invoking

@@ -1,5 +1,6 @@
 use crate::session::Session;
 
+pub(crate) mod association;
 pub(crate) mod delivery;
 pub(crate) mod reception;
 
