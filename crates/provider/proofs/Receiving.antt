@@ -2,7 +2,7 @@
 use mathlib.Core.Path.{_≡_, refl, sym, ap, _∙_, subst}
 use mathlib.Core.Bool.{Bool, true, false, cond, _&&_, and-false}
 use mathlib.Core.List.{List, [], _∷_, _++_}
-use Prim.Native.Nat.{ℕ, _-_, _≤_, _<_}
+use Prim.Native.Nat.{ℕ, zero, suc, _-_, _≤_, _<_}
 use native.Mathlib.Omega.{arith}
 use lib.ListN.{length, take, drop}
 use lib.Dec.{leb}
@@ -13,17 +13,20 @@ use Rattle.std.specs.declared.result.Result.the-variants.{Ok, Err}
 use Rattle.std.proofs.shelf.Lists.{take-at}
 use Rattle.std.proofs.shelf.Tests.{and-parts, leb-true, le-leb}
 use Rattle.codec.specs.Limits.{longestRecord, dataLimit, millisecondLimit, microsecondLimit}
-use Rattle.codec.specs.Times.{Stamp, timely, checkedStamp}
+use Rattle.codec.specs.Times.{Stamp, stamp, timely, checkedStamp}
 use Rattle.codec.specs.declared.time.TimeField.{TimeField}
 use Rattle.codec.specs.declared.time.TimeField.the-variants.{Millisecond, Microsecond}
 use Rattle.codec.specs.declared.record.Quality.{Quality}
-use Rattle.codec.proofs.RecordsWritten.{frame-length}
-use Rattle.codec.specs.Records.{Record, frame, encode, writable, writeAnswer, dataLengthAllowed}
+use Rattle.codec.specs.declared.record.ProductionStatus.{ProductionStatus}
+use Rattle.codec.proofs.RecordsWritten.{frame-length, loss-length, status-length, end-length}
+use Rattle.codec.specs.declared.record.Notification.{Notification}
+use Rattle.codec.specs.declared.record.Notification.the-variants.{LossOfFrameSynchronization, ProductionStatusChange, EndOfData}
+use Rattle.codec.specs.Records.{Record, frame, notified, encode, writable, writeAnswer, dataLengthAllowed}
 use Rattle.codec.specs.declared.record.WriteRefusal.{WriteRefusal}
 use Rattle.codec.specs.declared.record.WriteRefusal.the-variants.{DataLength, BufferTooShort}
 use Rattle.histories.specs.Queues.{Queue, Added, keep, add}
 use Rattle.histories.specs.Sessions.{Session, isClosed}
-use Rattle.histories.specs.Calls.{Outcome, refuses, refused, accepted}
+use Rattle.histories.specs.Calls.{Outcome, refuses, refused, accepted, asNote}
 use Rattle.histories.specs.Provider.{State, isTimely, hasData, produced, admit, receive, receiveBy}
 use Rattle.provider.specs.States.{numbers, Leads, Offered}
 use Rattle.provider.proofs.Sending.{leads-by}
@@ -76,11 +79,12 @@ not-written q t d out e answered size = by (dataLengthAllowed (length d)) refl
 
 -- what became of a record whose octets were offered to the frame buffer
 module _ (s s′ : State) (r : Record) (octets : List ℕ) (is : octets ≡ encode r) where
-  pub admitted-is : Offered s octets true s′ → produced r (s .session) ≡ s′ .session → Leads s (admit (s .session) (s .frames) r) accepted s′
-  admitted-is o session =
-      let room : s .frames .room (length (encode r)) ≡ true = ap (λ x. s .frames .room (length x)) (sym is) ∙ sym (o .room) in
+  pub admitted-is : true ≡ s .frames .room (length octets) → Added (s .frames) octets (s′ .frames) → s′ .settings ≡ s .settings → s′ .opening ≡ s .opening → s′ .session ≡ produced r (s .session)
+      → s′ .transport ≡ s .transport → Leads s (admit (s .session) (s .frames) r) accepted s′
+  admitted-is had frames settings opening session transport =
+      let room : s .frames .room (length (encode r)) ≡ true = ap (λ x. s .frames .room (length x)) (sym is) ∙ sym had in
       leads-by s s′ _ _ _ (admits (s .session) (s .frames) r room)
-      (record { answer = refl; settings = o .settings; opening = o .opening; session = sym session; frames = subst (λ x. Added (s .frames) x (s′ .frames)) is (o .frames); transport = o .transport })
+      (record { answer = refl; settings = settings; opening = opening; session = session; frames = subst (λ x. Added (s .frames) x (s′ .frames)) is frames; transport = transport })
 
   pub full-is : Offered s octets false s′ → Leads s (admit (s .session) (s .frames) r) (refused 13) s′
   full-is o =
@@ -101,10 +105,14 @@ either-copied : (b : Bool) (x y : Outcome) → [] ≡ x .copied → [] ≡ y .co
 either-copied true x y e f = e
 either-copied false x y e f = f
 
-pub copies-nothing : (s : Session) (frames : Queue) (n : ℕ) (r : Option Record) → [] ≡ receive s frames n r .copied
+pub admit-copies-nothing : (s : Session) (frames : Queue) (r : Record) → [] ≡ admit s frames r .copied
 unfolding admit
+admit-copies-nothing s frames r = either-copied (frames .room (length (encode r))) (record { answer = accepted; copied = []; session = produced r s; onFrames = add (encode r); onTransport = keep }) (refuses s 13) refl refl
+
+pub copies-nothing : (s : Session) (frames : Queue) (n : ℕ) (r : Option Record) → [] ≡ receive s frames n r .copied
 copies-nothing s frames n None = refl
-copies-nothing s frames n (Some r) = either-copied (isTimely r) _ _ (either-copied (hasData r) _ _ (either-copied (frames .room (length (encode r))) _ _ refl refl) refl) refl
+copies-nothing s frames n (Some r) =
+    either-copied (isTimely r) (cond (hasData r) (admit s frames r) (refuses s 12)) (refuses s 11) (either-copied (hasData r) (admit s frames r) (refuses s 12) (admit-copies-nothing s frames r) refl) refl
 
 -- numbers that make no time are beyond a limit, and those that make one are its numbers
 pub no-time : (d ms us : ℕ) (e : TimeField) → Err e ≡ checkedStamp d ms us → timely (numbers d ms us) ≡ false
@@ -122,3 +130,34 @@ a-time d ms us t is = by (leb ms millisecondLimit) (leb us microsecondLimit) ref
     by true true x y = let ok : checkedStamp d ms us ≡ Ok (numbers d ms us) = rw (x, y) in cc
     by true false x y = let err : checkedStamp d ms us ≡ Err Microsecond = rw (x, y) in let bad : _≡_ {A = ℕ} 0 1 = cc in absurd (omega arith)
     by false b x y = let err : checkedStamp d ms us ≡ Err Millisecond = rw x in let bad : _≡_ {A = ℕ} 0 1 = cc in absurd (omega arith)
+
+-- a buffer for the longest record takes every notification
+pub always-written : (n : Notification) (out : List ℕ) (e : WriteRefusal) → Err e ≡ writeAnswer (length out) (notified n) → length out ≡ longestRecord → ⊥
+always-written n out e answered size =
+    let fits = le-leb (length (encode (notified n))) (length out) (let l = short n in omega arith) in
+    let never = failed-tests (writable (notified n)) (leb (length (encode (notified n))) (length out)) (length (encode (notified n))) e answered fits in
+    contrary (writable (notified n)) (may n) never
+  where
+    short : (n : Notification) → length (encode (notified n)) ≤ longestRecord
+    short (LossOfFrameSynchronization t) = omega (arith, loss-length (stamp t))
+    short (ProductionStatusChange v) = omega (arith, status-length v)
+    short EndOfData = omega (arith, end-length)
+    may : (n : Notification) → writable (notified n) ≡ true
+    may (LossOfFrameSynchronization t) = refl
+    may (ProductionStatusChange v) = refl
+    may EndOfData = refl
+    contrary : (b : Bool) → b ≡ true → b ≡ false → ⊥
+    contrary true e f = let bad : _≡_ {A = ℕ} 0 1 = cc in omega arith
+    contrary false e f = let bad : _≡_ {A = ℕ} 0 1 = cc in omega arith
+
+-- a note of another type means nothing
+pub no-note : (kind : ℕ) (t : Stamp) (v : ℕ) → (kind ≡ 0 → ⊥) → (kind ≡ 1 → ⊥) → asNote kind t v ≡ None
+no-note zero t v a b = absurd (a refl)
+no-note (suc zero) t v a b = absurd (b refl)
+no-note (suc (suc k)) t v a b = refl
+
+-- only a status change changes the session
+pub unproduced : (n : Notification) (s : Session) → ((v : ProductionStatus) → n ≡ ProductionStatusChange v → ⊥) → s ≡ produced (notified n) s
+unproduced (LossOfFrameSynchronization t) s ne = refl
+unproduced (ProductionStatusChange v) s ne = absurd (ne v refl)
+unproduced EndOfData s ne = refl

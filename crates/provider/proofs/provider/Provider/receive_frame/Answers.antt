@@ -1,5 +1,5 @@
 use borrow.Author.Needs.{needs}
-use mathlib.Core.Path.{_≡_, sym}
+use mathlib.Core.Path.{_≡_}
 use mathlib.Core.Bool.{true}
 use Prim.Native.Nat.{ℕ, _-_}
 use lib.ListN.{take, replicate, length-replicate}
@@ -43,4 +43,4 @@ returns g c =
     let front = written-front r (replicate 2061 0) (c .write-frame .last .out) (c .in-Ok .length) (c .in-Ok .ensures tt .answer) (c .in-Ok .ensures tt .buffer) in
     let o = c .if-not-offer .ensures tt in
     leads-by s s′ _ _ _ (receives (session-of (p .session)) (queue-of (g .F·Meaning) (p .frames)) r 10 in-time (front .0))
-    (admitted-is s s′ r (take (c .in-Ok .length - 0) (c .write-frame .last .out)) (front .1) o (sym (o .session)))
+    (admitted-is s s′ r (take (c .in-Ok .length - 0) (c .write-frame .last .out)) (front .1) (o .room) (o .frames) (o .settings) (o .opening) (o .session) (o .transport))
