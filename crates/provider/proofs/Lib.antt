@@ -7,3 +7,5 @@ pub mod Ticking
 pub mod Collecting
 pub mod Receiving
 pub mod Invoking
+pub mod EndOfData
+pub mod Moving

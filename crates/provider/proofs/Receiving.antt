@@ -142,10 +142,12 @@ always-written n out e answered size =
     short (LossOfFrameSynchronization t) = omega (arith, loss-length (stamp t))
     short (ProductionStatusChange v) = omega (arith, status-length v)
     short EndOfData = omega (arith, end-length)
+
     may : (n : Notification) → writable (notified n) ≡ true
     may (LossOfFrameSynchronization t) = refl
     may (ProductionStatusChange v) = refl
     may EndOfData = refl
+
     contrary : (b : Bool) → b ≡ true → b ≡ false → ⊥
     contrary true e f = let bad : _≡_ {A = ℕ} 0 1 = cc in omega arith
     contrary false e f = let bad : _≡_ {A = ℕ} 0 1 = cc in omega arith

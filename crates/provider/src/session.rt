@@ -5,6 +5,7 @@ use crate::settings::Settings;
 use crate::transfer_buffer::TransferBuffer;
 use codec::record::ProductionStatus;
 
+pub(crate) mod entries;
 pub(crate) mod invocations;
 pub(crate) mod phases;
 

@@ -89,7 +89,14 @@ impl<F: Queue, T: Queue> Provider<F, T> {
     }
 
     // A note from the receiver: type 0 is a loss of frame synchronization at a time, type 1 a production status.
-    pub fn note(&mut self, kind: u8, day: u16, millisecond: u32, microsecond: u32, status: u8) -> Result<(), ReceptionRefusal>
+    pub fn note(
+        &mut self,
+        kind: u8,
+        day: u16,
+        millisecond: u32,
+        microsecond: u32,
+        status: u8,
+    ) -> Result<(), ReceptionRefusal>
         ensures { λ r. ⌜ Called (state-of F·Meaning T·Meaning (now (self .entry))) (event (note kind (numbers day millisecond microsecond) status) (reception-answer r) []) (state-of F·Meaning T·Meaning (now (self .exit))) ⌝ }
     {
         if self.session.is_closed() {
@@ -97,7 +104,9 @@ impl<F: Queue, T: Queue> Provider<F, T> {
         }
         if kind == 0 {
             return match Time::new(day, millisecond, microsecond) {
-                Ok(time) => self.receive_notification(Notification::LossOfFrameSynchronization(time)),
+                Ok(time) => self.receive_notification(Notification::LossOfFrameSynchronization(
+                    time,
+                )),
                 Err(_) => Err(ReceptionRefusal::Time),
             };
         }

@@ -29,9 +29,9 @@ returns-in-Ok g c =
     let is = a-time (c .args .day) (c .args .millisecond) (c .args .microsecond) (stamp (c .in-Ok .time)) (c .in-Ok .ensures tt) in
     let in-time : timely (stamp (c .in-Ok .time)) ≡ true = search needs in
     let comes = open-receives (s .session) (s .frames) 14 (argument call) (sym (c .if-is-closed .ensures tt))
-      ∙ ap (λ k. receive (s .session) (s .frames) 14 (asNote k t (c .args .status))) (c .if-kind-eq0 .taken)
-      ∙ ap (λ x. receive (s .session) (s .frames) 14 (Some (loss x))) (sym is)
-      ∙ receives (s .session) (s .frames) r 14 in-time refl in
+    ∙ ap (λ k. receive (s .session) (s .frames) 14 (asNote k t (c .args .status))) (c .if-kind-eq0 .taken)
+    ∙ ap (λ x. receive (s .session) (s .frames) 14 (Some (loss x))) (sym is)
+    ∙ receives (s .session) (s .frames) r 14 in-time refl in
     called s s′ call (reception-answer (c .receive-notification .result)) [] (admit (s .session) (s .frames) r) comes (admit-copies-nothing (s .session) (s .frames) r) (c .receive-notification .ensures)
 
 pub returns-in-Err : need.returns-in-Err
@@ -40,8 +40,8 @@ returns-in-Err g c =
     let t = numbers (c .args .day) (c .args .millisecond) (c .args .microsecond) in
     let call = note (c .args .kind) t (c .args .status) in
     let comes = open-receives (s .session) (s .frames) 14 (argument call) (sym (c .if-is-closed .ensures tt))
-      ∙ ap (λ k. receive (s .session) (s .frames) 14 (asNote k t (c .args .status))) (c .if-kind-eq0 .taken)
-      ∙ untimely (s .session) (s .frames) (loss t) 14 (no-time (c .args .day) (c .args .millisecond) (c .args .microsecond) (c .in-Err .field-0) (c .in-Err .ensures tt)) in
+    ∙ ap (λ k. receive (s .session) (s .frames) 14 (asNote k t (c .args .status))) (c .if-kind-eq0 .taken)
+    ∙ untimely (s .session) (s .frames) (loss t) 14 (no-time (c .args .day) (c .args .millisecond) (c .args .microsecond) (c .in-Err .field-0) (c .in-Err .ensures tt)) in
     called s s call (refused 11) [] (refuses (s .session) 11) comes refl (stays s (refused 11))
 
 pub returns-then-kind-ne1 : need.returns-then-kind-ne1
@@ -50,7 +50,7 @@ returns-then-kind-ne1 g c =
     let t = numbers (c .args .day) (c .args .millisecond) (c .args .microsecond) in
     let call = note (c .args .kind) t (c .args .status) in
     let comes = open-receives (s .session) (s .frames) 14 (argument call) (sym (c .if-is-closed .ensures tt))
-      ∙ ap (receive (s .session) (s .frames) 14) (no-note (c .args .kind) t (c .args .status) (c .if-kind-eq0 .left) (c .if-kind-ne1 .taken)) in
+    ∙ ap (receive (s .session) (s .frames) 14) (no-note (c .args .kind) t (c .args .status) (c .if-kind-eq0 .left) (c .if-kind-ne1 .taken)) in
     called s s call (refused 14) [] (refuses (s .session) 14) comes refl (stays s (refused 14))
 
 pub returns-in-Some : need.returns-in-Some
@@ -61,9 +61,9 @@ returns-in-Some g c =
     let call = note (c .args .kind) t (c .args .status) in
     let r = status (c .in-Some .status) in
     let comes = open-receives (s .session) (s .frames) 14 (argument call) (sym (c .if-is-closed .ensures tt))
-      ∙ ap (λ k. receive (s .session) (s .frames) 14 (asNote k t (c .args .status))) (c .if-kind-ne1 .left)
-      ∙ ap (λ v. receive (s .session) (s .frames) 14 (asStatus v)) (sym (c .in-Some .ensures tt))
-      ∙ receives (s .session) (s .frames) r 14 refl refl in
+    ∙ ap (λ k. receive (s .session) (s .frames) 14 (asNote k t (c .args .status))) (c .if-kind-ne1 .left)
+    ∙ ap (λ v. receive (s .session) (s .frames) 14 (asStatus v)) (sym (c .in-Some .ensures tt))
+    ∙ receives (s .session) (s .frames) r 14 refl refl in
     called s s′ call (reception-answer (c .receive-notification-in-Some .result)) [] (admit (s .session) (s .frames) r) comes (admit-copies-nothing (s .session) (s .frames) r) (c .receive-notification-in-Some .ensures)
 
 pub returns-in-None : need.returns-in-None
@@ -72,6 +72,6 @@ returns-in-None g c =
     let t = numbers (c .args .day) (c .args .millisecond) (c .args .microsecond) in
     let call = note (c .args .kind) t (c .args .status) in
     let comes = open-receives (s .session) (s .frames) 14 (argument call) (sym (c .if-is-closed .ensures tt))
-      ∙ ap (λ k. receive (s .session) (s .frames) 14 (asNote k t (c .args .status))) (c .if-kind-ne1 .left)
-      ∙ ap (λ v. receive (s .session) (s .frames) 14 (asStatus v)) (sym (c .in-None .ensures tt)) in
+    ∙ ap (λ k. receive (s .session) (s .frames) 14 (asNote k t (c .args .status))) (c .if-kind-ne1 .left)
+    ∙ ap (λ v. receive (s .session) (s .frames) 14 (asStatus v)) (sym (c .in-None .ensures tt)) in
     called s s call (refused 14) [] (refuses (s .session) 14) comes refl (stays s (refused 14))

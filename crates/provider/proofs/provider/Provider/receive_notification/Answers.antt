@@ -25,7 +25,7 @@ returns-in-ProductionStatusChange g c =
     let front = written-front r (replicate 2061 0) (c .write-notification .last .out) (c .in-Ok .length) (c .in-Ok .ensures tt .answer) (c .in-Ok .ensures tt .buffer) in
     let o = c .if-not-offer .ensures tt in
     admitted-is s _ r (take (c .in-Ok .length - 0) (c .write-notification .last .out)) (front .1) (o .room) (o .frames) (o .settings) (o .opening)
-      (ap (producing (c .in-ProductionStatusChange .status)) (o .session) ∙ sym (ap (λ n. produced (notified n) (s .session)) (c .in-ProductionStatusChange .is))) (o .transport)
+    (ap (producing (c .in-ProductionStatusChange .status)) (o .session) ∙ sym (ap (λ n. produced (notified n) (s .session)) (c .in-ProductionStatusChange .is))) (o .transport)
 
 pub returns-in-rest-notification : need.returns-in-rest-notification
 returns-in-rest-notification g c =
@@ -35,4 +35,4 @@ returns-in-rest-notification g c =
     let front = written-front r (replicate 2061 0) (c .write-notification .last .out) (c .in-Ok .length) (c .in-Ok .ensures tt .answer) (c .in-Ok .ensures tt .buffer) in
     let o = c .if-not-offer .ensures tt in
     admitted-is s s′ r (take (c .in-Ok .length - 0) (c .write-notification .last .out)) (front .1) (o .room) (o .frames) (o .settings) (o .opening)
-      (o .session ∙ unproduced (c .args .notification) (s .session) (c .in-rest-notification .not-ProductionStatusChange)) (o .transport)
+    (o .session ∙ unproduced (c .args .notification) (s .session) (c .in-rest-notification .not-ProductionStatusChange)) (o .transport)
