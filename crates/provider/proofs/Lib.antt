@@ -9,3 +9,4 @@ pub mod Receiving
 pub mod Invoking
 pub mod EndOfData
 pub mod Moving
+pub mod Opening

@@ -5,3 +5,4 @@ pub mod Held
 pub mod Sessions
 pub mod Invoking
 pub mod States
+pub mod Opening

@@ -6,6 +6,7 @@ use crate::transfer_buffer::TransferBuffer;
 use codec::record::ProductionStatus;
 
 pub(crate) mod entries;
+pub(crate) mod fresh;
 pub(crate) mod invocations;
 pub(crate) mod phases;
 
