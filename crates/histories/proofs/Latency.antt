@@ -8,7 +8,7 @@ use native.Mathlib.Omega.{arith}
 use lib.ListN.{length}
 use Rattle.std.specs.shelf.Lists.{All}
 use Rattle.std.proofs.shelf.Elements.{all-weaker}
-use Rattle.std.proofs.shelf.Tests.{and-cases, both-ways, false≢true}
+use Rattle.std.proofs.shelf.Tests.{ltb-true, and-cases, both-ways, false≢true}
 use Rattle.codec.specs.Records.{Record, WellFormed}
 use Rattle.histories.specs.Sessions.{active, isActive}
 use Rattle.histories.specs.Calls.{Outcome}
@@ -47,6 +47,6 @@ module _ (l : Ledger) (s : State) (i : Inv l s) (empty : s .transport .held ≡ 
       gone = elim (and-cases (isActive (s .session .phase)) (isFilled (s .session .buffer)) h) [ inl off ↦ absurd (both-ways (isActive (s .session .phase)) off (ap isActive on)) | inr e ↦ e ]
   punctual on (does.grows-older a h) =
       subst (λ (x : Ledger). All (Under (s .settings .latencyLimit)) (x .pending)) (sym (counts l s i on))
-      (all-weaker (Within (suc (s .session .age))) (Under (s .settings .latencyLimit)) (λ e w. omega arith) (map older (l .pending)) (young l s i h))
+      (all-weaker (Within (suc (s .session .age))) (Under (s .settings .latencyLimit)) (λ e w. let below = ltb-true (suc (s .session .age)) (s .settings .latencyLimit) h in omega arith) (map older (l .pending)) (young l s i h))
   punctual on (Ticks.sends a) = tt
   punctual on (Ticks.waits a full) = absurd (both-ways (s .transport .room (length (transferPdu (s .session .buffer)))) full (has-room (filled (s .session .buffer) (a .filled))))

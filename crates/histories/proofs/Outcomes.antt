@@ -2,11 +2,11 @@
 use mathlib.Core.Path.{_≡_, refl, sym, ap, _∙_, subst, subst₂}
 use mathlib.Core.Bool.{Bool, true, false, cond, _&&_}
 use mathlib.Core.List.{List, [], _∷_, _++_}
-use Prim.Native.Nat.{ℕ, zero, suc, _<_}
+use Prim.Native.Nat.{ℕ, zero, suc}
 use native.Mathlib.Omega.{arith}
 use lib.Dec.{eqb, leb}
 use lib.ListN.{length}
-use Rattle.std.proofs.shelf.Tests.{cond-both, and-parts, or-parts, both-ways, eqb-false, leb-true, ltb-true}
+use Rattle.std.proofs.shelf.Tests.{cond-both, and-parts, or-parts, both-ways, eqb-false, leb-true}
 use Rattle.std.proofs.shelf.Lists.{take-all, drop-all}
 use Rattle.std.specs.shelf.Text.{sameBytes}
 use Rattle.std.specs.declared.option.Option.{Option}
@@ -23,12 +23,12 @@ use Rattle.codec.specs.Records.{Record, frame, loss, status, endOfData, encode,
 use Rattle.codec.specs.RecordReading.{qualityOf, statusOf}
 use Rattle.codec.specs.Invocations.{Request, start, stop, bind, unbind, abort}
 use Rattle.codec.specs.InvocationReading.{requestIn}
-use Rattle.histories.specs.Queues.{Queue, keep, add, drop-oldest}
-use Rattle.histories.specs.Sessions.{Phase, unbound, ready, active, closed, isActive, emptySpan, selected, late, Session, toPhase, aged, holding, selecting}
-use Rattle.histories.specs.Calls.{Call, acquire, note, move, tick, collect, invoke, argument, asFrame, asStatus, asNote, accepted, idle, waiting, sent, quiet, collected, startDone, bindDone, abortDone, undecodable, protocolError, Outcome, says, refuses}
-use Rattle.histories.specs.Delivery.{transferPdu, sendFirst, send, isFilled, tickBy, collectBy}
+use Rattle.histories.specs.Queues.{Queue, keep, add}
+use Rattle.histories.specs.Sessions.{Phase, unbound, ready, active, closed, isActive, emptySpan, Session, toPhase, aged, holding, selecting}
+use Rattle.histories.specs.Calls.{Call, acquire, note, move, tick, collect, invoke, argument, asFrame, asStatus, asNote, accepted, idle, waiting, sent, quiet, startDone, bindDone, undecodable, protocolError, Outcome, says, refuses}
+use Rattle.histories.specs.Delivery.{isYoung, collecting, transferPdu, sendFirst, send, isFilled, tickBy, collectBy}
 use Rattle.histories.specs.Invocations.{protocol-error, afterUnbind, table, isAccepted, discard, bindBy, isHalted, startBy, selectionOf, performed, byCell, byFault, byReading, invokeBy}
-use Rattle.histories.specs.Provider.{State, isTimely, hasData, produced, admit, receive, receiveBy, oldest, ending, taking, passing, moveRecord, mustSend, moveBy, outcome}
+use Rattle.histories.specs.Provider.{State, endsRun, isTaken, isTimely, hasData, produced, admit, receive, receiveBy, oldest, ending, taking, passing, moveRecord, mustSend, moveBy, outcome}
 use Rattle.histories.specs.Ledger.{Event, Ledger, accept, takeOldest, passOldest, endRun, countTick, handOver, beginRun, setPhase, setPdus, loseAssociation, loseIfBound, enterPhase, followReading, performRequest, onCall, acceptArgument, step}
 
 abbrev pub admitting : Session → Record → Outcome
@@ -37,9 +37,6 @@ admitting s r = record { answer = accepted; copied = []; session = produced r s;
 -- the whole transfer buffer is sent
 abbrev pub sending : Session → Outcome
 sending s = record { answer = sent; copied = []; session = holding [] s; onFrames = keep; onTransport = add (transferPdu (s .buffer)) }
-
-abbrev pub collecting : Session → List ℕ → Outcome
-collecting s pdu = record { answer = collected (length pdu); copied = pdu; session = s; onFrames = keep; onTransport = drop-oldest }
 
 -- what a call does to a ledger
 abbrev pub Change : Type 0
@@ -70,9 +67,9 @@ pub data Moves (s : State) : Outcome → Change → Type 0 where
   no-record : oldest (s .frames .held) ≡ None → Moves s (says (s .session) idle) unchanged
   sends : mustSend (s .settings) (s .session) ≡ true → Moves s (sending (s .session)) handOver
   waits : mustSend (s .settings) (s .session) ≡ true → s .transport .room (length (transferPdu (s .session .buffer))) ≡ false → Moves s (says (s .session) waiting) unchanged
-  ends : (r : Record) → Looks s r → late (s .session .selection) r ≡ true → Moves s (ending (s .session)) endRun
-  takes : (r : Record) → Looks s r → late (s .session .selection) r ≡ false → selected (s .session .selection) r ≡ true → Moves s (taking (s .session) r) takeOldest
-  passes : (r : Record) → Looks s r → late (s .session .selection) r ≡ false → selected (s .session .selection) r ≡ false → Moves s (passing (s .session)) passOldest
+  ends : (r : Record) → Looks s r → endsRun (s .session) r ≡ true → Moves s (ending (s .session)) endRun
+  takes : (r : Record) → Looks s r → endsRun (s .session) r ≡ false → isTaken (s .session) r ≡ true → Moves s (taking (s .session) r) takeOldest
+  passes : (r : Record) → Looks s r → endsRun (s .session) r ≡ false → isTaken (s .session) r ≡ false → Moves s (passing (s .session)) passOldest
 
 -- a tick that finds records to age
 pub record Ages (s : State) : Type 0 where
@@ -81,7 +78,7 @@ pub record Ages (s : State) : Type 0 where
 
 pub data Ticks (s : State) : Outcome → Change → Type 0 where
   rests : (isActive (s .session .phase) && isFilled (s .session .buffer)) ≡ false → Ticks s (says (s .session) quiet) countTick
-  grows-older : Ages s → suc (s .session .age) < s .settings .latencyLimit → Ticks s (says (aged (suc (s .session .age)) (s .session)) quiet) countTick
+  grows-older : Ages s → isYoung (s .settings) (s .session) ≡ true → Ticks s (says (aged (suc (s .session .age)) (s .session)) quiet) countTick
   sends : Ages s → Ticks s (sending (aged (s .settings .latencyLimit) (s .session))) (λ l. handOver (countTick l))
   waits : Ages s → s .transport .room (length (transferPdu (s .session .buffer))) ≡ false → Ticks s (says (aged (s .settings .latencyLimit) (s .session)) waiting) countTick
 
@@ -102,7 +99,7 @@ pub data Invokes (s : State) (octets : List ℕ) : Outcome → Change → Type 0
       → Invokes s octets (says (toPhase ready (s .session)) (bindDone id (s .settings .version))) (setPhase ready)
   unbinds : (id : ℕ) (reason : UnbindReason) → requestIn octets ≡ Ok (unbind id reason) → s .session .phase ≡ ready
       → Invokes s octets (performed (s .settings) (s .session) (afterUnbind reason) (unbind id reason)) (setPhase (afterUnbind reason))
-  aborts : (diagnostic : ℕ) → requestIn octets ≡ Ok (abort diagnostic) → Bound (s .session .phase) → Invokes s octets (discard (s .session) abortDone) loseAssociation
+  aborts : (diagnostic : ℕ) → requestIn octets ≡ Ok (abort diagnostic) → Bound (s .session .phase) → Invokes s octets (performed (s .settings) (s .session) unbound (abort diagnostic)) loseAssociation
   errs : (request : Request) → requestIn octets ≡ Ok request → table (s .session .phase) request ≡ protocol-error → Invokes s octets (discard (s .session) protocolError) loseAssociation
   misreads : (fault : Fault) → requestIn octets ≡ Err fault → Bound (s .session .phase) → Invokes s octets (discard (s .session) (undecodable fault)) loseAssociation
   misreads-unbound : (fault : Fault) → s .session .phase ≡ unbound → Invokes s octets (says (s .session) (undecodable fault 0)) unchanged
@@ -204,7 +201,7 @@ module _ (s : State) where
       (λ h. let both = and-parts on filled h in
       let ages : Ages s = record { on = is-on (s .session .phase) (both .0); filled = both .1 } in
       cond-both _ _ _ (Comes-by (Ticks s))
-      (λ k. (countTick, grows-older ages (ltb-true (suc (s .session .age)) (s .settings .latencyLimit) k)))
+      (λ k. (countTick, grows-older ages k))
       (λ _. send-ways (Comes-by (Ticks s)) (aged (s .settings .latencyLimit) (s .session)) (s .transport)
       ((λ l. handOver (countTick l)), Ticks.sends ages) (λ none. (countTick, Ticks.waits ages none))))
       (λ h. (countTick, rests h))

@@ -10,7 +10,7 @@ use lib.ListN.{length, replicate}
 use Rattle.std.specs.shelf.Lists.{All}
 use Rattle.std.proofs.shelf.Lists.{length-map, nil-from-length}
 use Rattle.std.proofs.shelf.Elements.{all-append}
-use Rattle.std.proofs.shelf.Tests.{cond-both, cond-true, cond-false, and-parts, and-cases, or-cases, both-ways, eqb-true, ne-eqb}
+use Rattle.std.proofs.shelf.Tests.{cond-both, cond-true, cond-false, and-parts, and-cases, or-cases, both-ways, eqb-true, ne-eqb, ltb-true}
 use Rattle.std.specs.declared.option.Option.the-variants.{None}
 use Rattle.codec.specs.Records.{Record}
 use Rattle.codec.proofs.OneRecord.{one-record-written}
@@ -120,7 +120,7 @@ module _ (l : Ledger) (s : State) (i : Inv l s) (empty : s .transport .held ≡ 
         | inr gone ↦ empty-buffer (s .session .buffer) gone
       ]
   ticks-near n m (does.grows-older a h) = λ frames transport f t.
-      stays (Ticking n) (aged (suc (s .session .age)) (s .session)) frames f (m .0, m .1, nearer n (m .2) (filled (s .session .buffer) (a .filled)) h)
+      stays (Ticking n) (aged (suc (s .session .age)) (s .session)) frames f (m .0, m .1, nearer n (m .2) (filled (s .session .buffer) (a .filled)) (ltb-true (suc (s .session .age)) (s .settings .latencyLimit) h))
   ticks-near n m (Ticks.sends a) = λ frames transport f t. stays (Ticking n) (holding [] (aged (s .settings .latencyLimit) (s .session))) frames f (m .0, m .1, inl refl)
   ticks-near n m (Ticks.waits a full′) = no-wait (filled (s .session .buffer) (a .filled)) full′
 

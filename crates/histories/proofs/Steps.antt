@@ -9,7 +9,7 @@ use lib.ListN.{length, drop}
 use Rattle.std.specs.shelf.Lists.{All}
 use Rattle.std.proofs.shelf.Lists.{map-push, map-append, length-map, length-push, nil-from-length}
 use Rattle.std.proofs.shelf.Elements.{all-push, all-append}
-use Rattle.std.proofs.shelf.Tests.{true≢false, cond-true, cond-false, cond-both, and-cases}
+use Rattle.std.proofs.shelf.Tests.{ltb-true, true≢false, cond-true, cond-false, cond-both, and-cases}
 use Rattle.std.specs.declared.option.Option.{Option}
 use Rattle.std.specs.declared.option.Option.the-variants.{Some, None}
 use Rattle.std.specs.declared.result.Result.the-variants.{Ok}
@@ -22,9 +22,9 @@ use Rattle.codec.specs.RecordReading.{recordsIn}
 use Rattle.histories.specs.Queues.{Queue, Lawful, Dropped}
 use Rattle.histories.specs.Sessions.{Phase, unbound, ready, active, isActive, Settings, Selection, late, selected, Session, toPhase, producing, aged, holding, marked, selecting, ageAtEntry, entered}
 use Rattle.histories.specs.Calls.{Call, refused, idle, waiting, ended, quiet, startDone, stopDone, bindDone, unbindDone, abortDone, undecodable, protocolError, Outcome, says}
-use Rattle.histories.specs.Delivery.{transferPdu, isFilled}
+use Rattle.histories.specs.Delivery.{isYoung, collecting, transferPdu, isFilled}
 use Rattle.histories.specs.Invocations.{afterUnbind, isAccepted, lost, selectionOf}
-use Rattle.histories.specs.Provider.{State, produced, oldest, ending, taking, passing}
+use Rattle.histories.specs.Provider.{State, endsRun, isTaken, produced, oldest, ending, taking, passing}
 use Rattle.histories.specs.Ledger.{Acceptance, Entry, Ledger, accept, entry, takeOldest, passOldest, endRun, older, countTick, handOver, beginRun, loseAssociation, setPhase, setPending, setPdus, recordOf}
 use Rattle.histories.specs.Statements.{recordsOf, octetsOf}
 use Rattle.codec.proofs.RecordsJoined.{records-written}
@@ -33,7 +33,7 @@ use Rattle.histories.proofs.Pdus.{records-push}
 use Rattle.histories.proofs.Entries.{WellAccepted, WellEntered, well-records, well-older, records-older}
 use Rattle.histories.proofs.LedgerLaws.{lawful-accept, tookOldest, passedOldest, takes-oldest, passes-oldest, lawful-take, lawful-pass, lawful-end, lawful-older, lawful-hand, lawful-pdu, lawful-phase, lawful-begin, lawful-lose}
 use Rattle.histories.proofs.Invariant.{Within, Framed, Buffered, Fitting, Inv, placed, Leads, keeping}
-use Rattle.histories.proofs.Outcomes.{admitting, sending, collecting, Looks, Receives, Moves, Ticks, Collects, Invokes, Does, Change}
+use Rattle.histories.proofs.Outcomes.{admitting, sending, Looks, Receives, Moves, Ticks, Collects, Invokes, Does, Change}
 use Rattle.histories.proofs.Outcomes as does
 
 -- one entry more in the transfer buffer
@@ -210,8 +210,8 @@ module _ (l : Ledger) (s : State) (i : Inv l s) where
   counts on = ap (λ (x : List Entry). setPending x l) (cond-true (isActive (l .phase)) (map older (l .pending)) (l .pending) (ap isActive (sym (i .phase) ∙ on)))
 
   -- below the limit every entry has been there for at most age
-  pub young : suc (s .session .age) < s .settings .latencyLimit → All (Within (suc (s .session .age))) (map older (l .pending))
-  young h = older-within (s .session .age) (l .pending) (i .buffered .ages (omega arith))
+  pub young : isYoung (s .settings) (s .session) ≡ true → All (Within (suc (s .session .age))) (map older (l .pending))
+  young h = let below = ltb-true (suc (s .session .age)) (s .settings .latencyLimit) h in older-within (s .session .age) (l .pending) (i .buffered .ages (omega arith))
 
   at-limit : Inv (setPending (map older (l .pending)) l) (placed s (aged (s .settings .latencyLimit) (s .session)) (s .frames) (s .transport))
   at-limit = ticked (s .settings .latencyLimit) (λ k. absurd (omega arith))
@@ -245,13 +245,13 @@ module _ (l : Ledger) (s : State) (i : Inv l s) where
     unmarked : l .endMark ≡ false
     unmarked = sym (i .mark) ∙ k .unmarked
 
-    early : (b : Bool) → late (s .session .selection) (a .value) ≡ b → late (l .run .selection) (a .value) ≡ b
+    early : (b : Bool) → endsRun (s .session) (a .value) ≡ b → late (l .run .selection) (a .value) ≡ b
     early b h = ap (λ (x : Selection). late x (a .value)) (sym (i .selection)) ∙ h
 
-    wanted : (b : Bool) → selected (s .session .selection) (a .value) ≡ b → selected (l .run .selection) (a .value) ≡ b
+    wanted : (b : Bool) → isTaken (s .session) (a .value) ≡ b → selected (l .run .selection) (a .value) ≡ b
     wanted b h = ap (λ (x : Selection). selected x (a .value)) (sym (i .selection)) ∙ h
 
-    takes : late (s .session .selection) (a .value) ≡ false → selected (s .session .selection) (a .value) ≡ true
+    takes : endsRun (s .session) (a .value) ≡ false → isTaken (s .session) (a .value) ≡ true
         → Leads (Inv (tookOldest a more l)) s (taking (s .session) (a .value))
     takes h w frames transport f t =
         subst (λ (x : Queue). Inv (tookOldest a more l) (placed s (entered (a .value) (s .session)) frames x)) (sym t)
@@ -266,7 +266,7 @@ module _ (l : Ledger) (s : State) (i : Inv l s) where
           lawful = lawful-take l a more u (i .lawful) unmarked (early false h) (wanted true w);
         })
 
-    passes : late (s .session .selection) (a .value) ≡ false → selected (s .session .selection) (a .value) ≡ false → Leads (Inv (passedOldest a more l)) s (passing (s .session))
+    passes : endsRun (s .session) (a .value) ≡ false → isTaken (s .session) (a .value) ≡ false → Leads (Inv (passedOldest a more l)) s (passing (s .session))
     passes h w frames transport f t =
         subst (λ (x : Queue). Inv (passedOldest a more l) (placed s (s .session) frames x)) (sym t)
         (record {
@@ -280,7 +280,7 @@ module _ (l : Ledger) (s : State) (i : Inv l s) where
           lawful = lawful-pass l a more u (i .lawful) unmarked (early false h) (wanted false w);
         })
 
-    ends : late (s .session .selection) (a .value) ≡ true → Inv (endRun l) (placed s (marked (entered endOfData (s .session))) (s .frames) (s .transport))
+    ends : endsRun (s .session) (a .value) ≡ true → Inv (endRun l) (placed s (marked (entered endOfData (s .session))) (s .frames) (s .transport))
     ends h = record {
       phase = i .phase;
       mark = refl;
@@ -320,14 +320,14 @@ module _ (l : Ledger) (s : State) (i : Inv l s) where
   step-move (Moves.sends h) = sends l s (s .session) i
   step-move (Moves.waits h k) = keeping (Inv l) s (s .session) waiting i
   step-move (does.ends r k h) =
-      looked (λ x. late (s .session .selection) x ≡ true → Leads (Inv (endRun l)) s (ending (s .session)))
+      looked (λ x. endsRun (s .session) x ≡ true → Leads (Inv (endRun l)) s (ending (s .session)))
       (λ a more u k′ h′. keeping (Inv (endRun l)) s (marked (entered endOfData (s .session))) ended (ends a more u k′ h′)) r k (l .untaken) refl h
   step-move (does.takes r k h w) =
-      looked (λ x. late (s .session .selection) x ≡ false → selected (s .session .selection) x ≡ true → Leads (Inv (takeOldest l)) s (taking (s .session) x))
+      looked (λ x. endsRun (s .session) x ≡ false → isTaken (s .session) x ≡ true → Leads (Inv (takeOldest l)) s (taking (s .session) x))
       (λ a more u k′ h′ w′. subst (λ (x : Ledger). Leads (Inv x) s (taking (s .session) (a .value))) (sym (takes-oldest l a more u)) (takes a more u k′ h′ w′))
       r k (l .untaken) refl h w
   step-move (does.passes r k h w) =
-      looked (λ x. late (s .session .selection) x ≡ false → selected (s .session .selection) x ≡ false → Leads (Inv (passOldest l)) s (passing (s .session)))
+      looked (λ x. endsRun (s .session) x ≡ false → isTaken (s .session) x ≡ false → Leads (Inv (passOldest l)) s (passing (s .session)))
       (λ a more u k′ h′ w′. subst (λ (x : Ledger). Leads (Inv x) s (passing (s .session))) (sym (passes-oldest l a more u)) (passes a more u k′ h′ w′))
       r k (l .untaken) refl h w
 
@@ -336,7 +336,7 @@ module _ (l : Ledger) (s : State) (i : Inv l s) where
   step-tick (does.grows-older a h) =
       let n : ℕ = suc (s .session .age) in
       subst (λ (x : Ledger). Leads (Inv x) s (says (aged n (s .session)) quiet)) (sym (counts (a .on)))
-      (keeping (Inv (setPending (map older (l .pending)) l)) s (aged n (s .session)) quiet (ticked n young))
+      (keeping (Inv (setPending (map older (l .pending)) l)) s (aged n (s .session)) quiet (ticked n (λ _. young h)))
   step-tick (Ticks.sends a) =
       let x : Session = aged (s .settings .latencyLimit) (s .session) in
       subst (λ (y : Ledger). Leads (Inv (handOver y)) s (sending x)) (sym (counts (a .on))) (sends (setPending (map older (l .pending)) l) s x at-limit)

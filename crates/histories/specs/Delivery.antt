@@ -26,19 +26,24 @@ abbrev pub isFilled : List Record → Bool
 isFilled [] = false
 isFilled (r ∷ rs) = true
 
+-- With one tick more the age is still below the limit.
+abbrev pub isYoung : Settings → Session → Bool
+isYoung g s = ltb (suc (s .age)) (g .latencyLimit)
+
 -- A tick while active, with records in the transfer buffer, makes them one tick older, to at most the limit; at the limit they are sent.
 unfoldable pub tickBy : Settings → Session → Queue → Outcome
 tickBy g s transport =
     cond (isActive (s .phase) && isFilled (s .buffer))
-    (cond (ltb (suc (s .age)) (g .latencyLimit))
+    (cond (isYoung g s)
     (says (aged (suc (s .age)) s) quiet)
     (send (aged (g .latencyLimit) s) transport))
     (says s quiet)
 
--- A collection copies the oldest waiting PDU whole into a buffer of n octets, and drops it.
+-- A collection copies the oldest waiting PDU whole to the caller, and drops it.
+abbrev pub collecting : Session → List ℕ → Outcome
+collecting s pdu = record { answer = collected (length pdu); copied = pdu; session = s; onFrames = keep; onTransport = drop-oldest }
+
+-- A collection into a buffer of n octets.
 unfoldable pub collectBy : Session → ℕ → List (List ℕ) → Outcome
 collectBy s n [] = refuses s 30
-collectBy s n (pdu ∷ pdus) =
-    cond (leb (length pdu) n)
-    (record { answer = collected (length pdu); copied = pdu; session = s; onFrames = keep; onTransport = drop-oldest })
-    (refuses s 34)
+collectBy s n (pdu ∷ pdus) = cond (leb (length pdu) n) (collecting s pdu) (refuses s 34)

@@ -114,10 +114,17 @@ taking s r = record { answer = moved; copied = []; session = entered r s; onFram
 abbrev pub passing : Session → Outcome
 passing s = record { answer = passedOver; copied = []; session = s; onFrames = drop-oldest; onTransport = keep }
 
--- What a move does with the oldest record of the frame buffer. Lateness is tested first, whatever the frame's quality.
+-- What a move asks of a record: whether it ends the run, and then whether it is to be sent.
+abbrev pub endsRun : Session → Record → Bool
+endsRun s r = late (s .selection) r
+
+abbrev pub isTaken : Session → Record → Bool
+isTaken s r = selected (s .selection) r
+
+-- What a move does with the oldest record of the frame buffer. Lateness comes first, whatever the frame's quality.
 unfoldable pub moveRecord : Session → Option Record → Outcome
 moveRecord s None = says s idle
-moveRecord s (Some r) = cond (late (s .selection) r) (ending s) (cond (selected (s .selection) r) (taking s r) (passing s))
+moveRecord s (Some r) = cond (endsRun s r) (ending s) (cond (isTaken s r) (taking s r) (passing s))
 
 -- The transfer buffer is sent when it is full, and what it has when the end mark is set.
 abbrev pub mustSend : Settings → Session → Bool
