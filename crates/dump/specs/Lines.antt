@@ -1,7 +1,10 @@
 -- The lines of a dump: what is written of times, faults, records and requests.
 use mathlib.Core.List.{List, [], _∷_, _++_}
-use Prim.Native.Nat.{ℕ}
+use Prim.Native.Nat.{ℕ, zero, suc, _+_}
 use lib.Chars.{codes}
+use lib.Dec.{leb}
+use lib.ListN.{length}
+use mathlib.Core.Bool.{cond}
 use Rattle.std.specs.Written.{decimal}
 use Rattle.std.specs.declared.option.Option.{Option}
 use Rattle.std.specs.declared.option.Option.the-variants.{Some, None}
@@ -10,8 +13,8 @@ use Rattle.std.specs.declared.result.Result.the-variants.{Ok, Err}
 use Rattle.script.specs.Hexadecimal.{hexadecimal-text}
 use Rattle.codec.specs.Faults.{letterOf}
 use Rattle.codec.specs.Times.{Stamp}
-use Rattle.codec.specs.Records.{qualityOctet}
-use Rattle.codec.specs.RecordReading.{Content, frameContent, lossContent, statusContent, endContent}
+use Rattle.codec.specs.Records.{Record, encode, qualityOctet}
+use Rattle.codec.specs.RecordReading.{recordAt, contentOf, Content, frameContent, lossContent, statusContent, endContent}
 use Rattle.codec.specs.Invocations.{Request, start, stop, bind, unbind, abort, requestedQualityOctet, reasonOctet}
 use Rattle.codec.specs.declared.fault.Fault.{Fault}
 use Rattle.codec.specs.declared.record.ProductionStatus.{ProductionStatus}
@@ -67,3 +70,18 @@ requestLine (abort d) = codes "PEER-ABORT diagnostic " ++ (decimal d ++ codes "\
 abbrev pub invocationLine : Result Request Fault → List ℕ
 invocationLine (Ok r) = requestLine r
 invocationLine (Err f) = faultLine f
+
+-- The lines from a record on that was read at a place: its own and those behind it, or its fault.
+abbrev pub linesBehind : Result Record Fault → ℕ → (Record → List ℕ) → List ℕ
+linesBehind (Ok r) at rest = recordLine at (contentOf r) ++ rest r
+linesBehind (Err f) at rest = faultLine f
+
+-- The lines of a PDU from a place on, at most n of them before the last: one for each record, and then the end or the fault.
+abbrev pub linesFrom : ℕ → List ℕ → ℕ → List ℕ
+linesFrom zero pdu at = codes "end\n"
+linesFrom (suc n) pdu at =
+    cond (leb (length pdu) at) (codes "end\n") (linesBehind (recordAt pdu at) at (λ r. linesFrom n pdu (at + length (encode r))))
+
+-- All the lines of a PDU; it has no more records than octets.
+abbrev pub pduLines : List ℕ → List ℕ
+pduLines pdu = linesFrom (length pdu) pdu 0

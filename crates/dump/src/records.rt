@@ -3,7 +3,7 @@ ghost use mathlib.Core.Path.{_≡_};
 ghost use Rattle.codec.specs.Times.{stamp};
 ghost use Rattle.codec.specs.RecordReading.{contentOf, contentOr, recordAt, said};
 ghost use Rattle.codec.specs.Records.{notified};
-ghost use Rattle.dump.specs.Lines.{faultLine, timeText, statusText, contentText, partLine};
+ghost use Rattle.dump.specs.Lines.{faultLine, timeText, statusText, contentText, partLine, pduLines};
 ghost use Rattle.std.specs.Of.String.{string-bytes};
 ghost use Rattle.std.specs.Of.Vec.{vec-items};
 ghost use Rattle.std.specs.Vec.{made};
@@ -101,7 +101,9 @@ fn say_record(out: &mut Vec<u8>, heap: Global, part: RecordPart) -> Result<(), A
 }
 
 // A line for each record of a PDU, and then its end or its fault.
-pub fn say_pdu(out: &mut Vec<u8>, heap: Global, pdu: &[u8]) -> Result<(), AllocError> {
+pub fn say_pdu(out: &mut Vec<u8>, heap: Global, pdu: &[u8]) -> Result<(), AllocError>
+    ensures { λ r. ⌜ made r (λ _. vec-items (now (out .exit)) ≡ vec-items (now (out .entry)) ++ pduLines (now (pdu .entry))) ⌝ }
+{
     let mut reader = RecordReader::new(pdu);
     loop {
         let next = match reader.next() {
