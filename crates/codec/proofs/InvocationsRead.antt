@@ -21,34 +21,20 @@ use Rattle.codec.specs.Invocations.{Request, start, stop, bind, unbind, abort,
 use Rattle.codec.specs.InvocationReading.{requestedQualityOf, reasonOf, requestedQualityAt, reasonAt, stampIfAt, stampIfLength, versionAt, identifierAt, endingAt, operationIn, startAt, stopAt, bindAt, unbindAt, abortAt, requestIn}
 use Rattle.codec.specs.declared.fault.Fault.{Fault}
 use Rattle.codec.specs.declared.invocation.RequestedQuality.{RequestedQuality}
+use Rattle.codec.specs.declared.invocation.RequestedQuality.the-variants.{GoodOnly, ErredOnly, All}
 use Rattle.codec.specs.declared.invocation.UnbindReason.{UnbindReason}
-use Rattle.codec.proofs.Results.{same-ok, err-is-not-ok, andThen-ok, cond-ok, cond-cases, orValueFault-ok}
+use Rattle.codec.specs.declared.invocation.UnbindReason.the-variants.{End, Suspend, VersionNotSupported, Other}
+use Rattle.codec.proofs.Results.{same-ok, err-is-not-ok, andThen-ok, cond-ok, cond-cases, orValueFault-ok, octet-of, none-left}
 use Rattle.codec.proofs.FieldsRead.{Stands, octet-read, two-octets-read, block-read, stamp-read}
 
-same-some : {X : Type 0} {x y : X} → Some x ≡ Some y → x ≡ y
-same-some h = cc
-
 requested-quality-octet : (n : ℕ) (q : RequestedQuality) → requestedQualityOf n ≡ Some q → n ≡ requestedQualityOctet q
-requested-quality-octet n q h =
-    ⊎-elim (λ a. eqb-true n 0 (a .0) ∙ ap requestedQualityOctet (same-some (a .1)))
-    (λ a. ⊎-elim (λ b. eqb-true n 1 (b .0) ∙ ap requestedQualityOctet (same-some (b .1)))
-    (λ b. ⊎-elim (λ c. eqb-true n 2 (c .0) ∙ ap requestedQualityOctet (same-some (c .1)))
-    (λ c. let z : _≡_ {A = ℕ} 0 1 = cc in absurd (omega arith))
-    (cond-cases (eqb n 2) _ _ (b .1)))
-    (cond-cases (eqb n 1) _ _ (a .1)))
-    (cond-cases (eqb n 0) _ _ h)
+requested-quality-octet n q =
+    octet-of requestedQualityOctet n GoodOnly _ (octet-of requestedQualityOctet n ErredOnly _ (octet-of requestedQualityOctet n All _ none-left))
 
 reason-octet : (n : ℕ) (r : UnbindReason) → reasonOf n ≡ Some r → n ≡ reasonOctet r
-reason-octet n r h =
-    ⊎-elim (λ a. eqb-true n 0 (a .0) ∙ ap reasonOctet (same-some (a .1)))
-    (λ a. ⊎-elim (λ b. eqb-true n 1 (b .0) ∙ ap reasonOctet (same-some (b .1)))
-    (λ b. ⊎-elim (λ c. eqb-true n 2 (c .0) ∙ ap reasonOctet (same-some (c .1)))
-    (λ c. ⊎-elim (λ d. eqb-true n 127 (d .0) ∙ ap reasonOctet (same-some (d .1)))
-    (λ d. let z : _≡_ {A = ℕ} 0 1 = cc in absurd (omega arith))
-    (cond-cases (eqb n 127) _ _ (c .1)))
-    (cond-cases (eqb n 2) _ _ (b .1)))
-    (cond-cases (eqb n 1) _ _ (a .1)))
-    (cond-cases (eqb n 0) _ _ h)
+reason-octet n r =
+    octet-of reasonOctet n End _ (octet-of reasonOctet n Suspend _
+    (octet-of reasonOctet n VersionNotSupported _ (octet-of reasonOctet n Other _ none-left)))
 
 -- a request that was read to its end
 ending-read : (xs : List ℕ) (at : ℕ) (r : Request) {s : Request} → endingAt xs at r ≡ Ok s → (drop at xs ≡ []) × (r ≡ s)
