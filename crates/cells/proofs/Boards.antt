@@ -9,7 +9,7 @@ use lib.ListN.{length, take, drop, getD, length-append, length-drop}
 use Rattle.std.specs.Of.Vec.{vec-items, vec-len, vec-cap}
 use Rattle.std.proofs.shelf.Lists.{length-map, map-append, length-take-le, take-take, take-at, drop-take}
 use Rattle.std.proofs.shelf.Tests.{eqb-true, eqb-false, ltb-true, and-parts}
-use Rattle.queue.specs.Answers.{gives, fair, admission, add-list, read-answer, read-buffer}
+use Rattle.queue.specs.Answers.{gives, fair, admission, add-list, read-answer, read-buffer, rest}
 use Rattle.queue.proofs.Admission.{admitted, fair-bounds}
 use Rattle.queue.proofs.Reading.{read-part}
 use Rattle.cells.specs.declared.cell.Cell.{Cell}
@@ -55,12 +55,12 @@ none-kept (c ∷ cs) e = absurd (omega arith)
 pub none-held : (q : CellQueue) → true ≡ eqb (vec-len (q .cells)) 0 → held-in q ≡ []
 none-held q e = none-kept (vec-items (q .cells)) (sym (q .cells .ok .0) ∙ eqb-true (vec-len (q .cells)) 0 (sym e))
 
-first-kept : (cs : List Cell) (c : Cell) → (length cs ≡ 0 → ⊥) → c ≡ getD cs 0 c → map record-in cs ≡ record-in c ∷ map record-in (drop 1 cs)
+first-kept : (cs : List Cell) (c : Cell) → (length cs ≡ 0 → ⊥) → c ≡ getD cs 0 c → map record-in cs ≡ record-in c ∷ rest (map record-in cs)
 first-kept [] c h e = absurd (h refl)
 first-kept (d ∷ cs) c h e = ap (λ q. record-in q ∷ map record-in cs) (sym e)
 
 -- the first cell keeps the oldest record
-pub oldest-held : (q : CellQueue) (c : Cell) → false ≡ eqb (vec-len (q .cells)) 0 → c ≡ getD (vec-items (q .cells)) 0 c → held-in q ≡ record-in c ∷ map record-in (drop 1 (vec-items (q .cells)))
+pub oldest-held : (q : CellQueue) (c : Cell) → false ≡ eqb (vec-len (q .cells)) 0 → c ≡ getD (vec-items (q .cells)) 0 c → held-in q ≡ record-in c ∷ rest (held-in q)
 oldest-held q c some e = first-kept (vec-items (q .cells)) c (λ z. eqb-false (vec-len (q .cells)) 0 (sym some) (q .cells .ok .0 ∙ z)) e
 
 -- where there is room, the record fits into a cell, and memory was taken for one more cell

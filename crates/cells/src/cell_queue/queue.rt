@@ -1,7 +1,8 @@
 ghost use mathlib.Core.Path.{_≡_};
 ghost use lib.ListN.{length};
 ghost use Rattle.cells.specs.Sizes.{cell-size};
-ghost use Rattle.cells.specs.Cells.{held-in, limit-in, cell-room};
+ghost use Rattle.cells.specs.Cells.{held-in, limit-in, cell-room, Oldest};
+ghost use Rattle.queue.specs.Answers.{answer-of, add-answer};
 use super::CellQueue;
 use crate::cell::CELL_SIZE;
 use crate::cell::Cell;
@@ -23,6 +24,23 @@ impl CellQueue {
         ensures { λ r. ⌜ r ≡ cell-room (limit-in (now (self .entry))) (held-in (now (self .entry))) n ⌝ }
     {
         0 < n && n <= CELL_SIZE && self.records() < self.limit
+    }
+
+    // Whether a record of `n` octets is taken now.
+    fn admission(&self, n: usize) -> Result<(), Refusal>
+        ensures { λ r. ⌜ answer-of r ≡ add-answer cell-size (cell-room (limit-in (now (self .entry))) (held-in (now (self .entry)))) n ⌝ }
+    {
+        admit(n, CELL_SIZE, self.fits(n))
+    }
+
+    // The cell of the oldest record.
+    fn oldest(&self) -> Result<Cell, Refusal>
+        ensures { λ r. ⌜ Oldest r (held-in (now (self .entry))) ⌝ }
+    {
+        if self.cells.is_empty() {
+            return Err(Refusal::Empty);
+        }
+        Ok(self.cells[0])
     }
 }
 
@@ -48,23 +66,17 @@ pub impl Queue for CellQueue as CellQueueQueue {
     }
 
     fn add(&mut self, octets: &[u8]) -> Result<(), Refusal> {
-        admit(octets.len(), CELL_SIZE, self.fits(octets.len()))?;
+        self.admission(octets.len())?;
         self.cells.push_reserved(Cell::keeping(octets));
         Ok(())
     }
 
     fn first_length(&mut self) -> Result<usize, Refusal> {
-        if self.cells.is_empty() {
-            return Err(Refusal::Empty);
-        }
-        Ok(self.cells[0].used())
+        Ok(self.oldest()?.used())
     }
 
     fn read_from(&mut self, place: usize, out: &mut [u8]) -> Result<usize, Refusal> {
-        if self.cells.is_empty() {
-            return Err(Refusal::Empty);
-        }
-        self.cells[0].read_from(place, out)
+        self.oldest()?.read_from(place, out)
     }
 
     fn drop(&mut self) -> Result<(), Refusal> {
