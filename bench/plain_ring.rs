@@ -2,6 +2,7 @@
 // proofs. It does the same work: a trait with the same calls and refusals, records in lent memory, capacity tests
 // before each write, add, read into a buffer, drop.
 // packed: a ring of octets, each record behind its length in two octets, at most two block copies for each run.
+// The ring's calls are always inlined: a copy of the two octets of a length is then one move, not a call.
 // slot: slots of one width, with a slice of notes (place and length) used as a ring.
 // Standard output: name, length, records held, records, octets and a sum over octets read, as `queue_speed` writes
 // them. Standard error: name, length, records held, rounds in a batch,
@@ -29,11 +30,13 @@ struct Ring<'a> {
 }
 
 impl<'a> Ring<'a> {
+    #[inline(always)]
     fn place(&self, k: usize) -> usize {
         let at = self.start + k;
         if at < self.octets.len() { at } else { at - self.octets.len() }
     }
 
+    #[inline(always)]
     fn add_run(&mut self, run: &[u8]) {
         let at = self.place(self.used);
         let tail = self.octets.len() - at;
@@ -46,6 +49,7 @@ impl<'a> Ring<'a> {
         self.used += run.len();
     }
 
+    #[inline(always)]
     fn read_run(&self, from: usize, out: &mut [u8]) {
         let at = self.place(from);
         let tail = self.octets.len() - at;
@@ -58,6 +62,7 @@ impl<'a> Ring<'a> {
         }
     }
 
+    #[inline(always)]
     fn drop_run(&mut self, n: usize) {
         self.start = self.place(n);
         self.used -= n;
@@ -78,9 +83,9 @@ impl<'a> Packed<'a> {
         if self.count == 0 {
             return Err(Refusal::Empty);
         }
-        let mut head = [0; 2];
-        self.ring.read_run(0, &mut head);
-        Ok(u16::from_be_bytes(head) as usize)
+        let high = self.ring.octets[self.ring.place(0)];
+        let low = self.ring.octets[self.ring.place(1)];
+        Ok(high as usize * 256 + low as usize)
     }
 }
 
@@ -197,8 +202,8 @@ struct Tally {
 // `black_box` keeps the compiler from leaving out what is only timed.
 fn churn<Q: Queue>(queue: &mut Q, record: &mut [u8], out: &mut [u8], rounds: u32, tally: &mut Tally) {
     for number in 0..rounds {
-        mark(record, number);
         let _ = queue.add(black_box(&*record));
+        mark(record, number);
         if let Ok(n) = queue.read_from(0, out) {
             tally.octets += n as u64;
             tally.sum += ends(black_box(&*out));
@@ -230,9 +235,15 @@ fn measure<Q: Queue>(name: &str, mut queue: Q, length: usize, held: u32, rounds:
     eprintln!("{name} {length} {held} {rounds} {best}");
 }
 
+// The arguments are the rounds in a batch, and then lengths.
 fn main() {
-    let rounds = std::env::args().nth(1).and_then(|text| text.parse().ok()).unwrap_or(100);
-    for length in [64, 512, 2061] {
+    let mut numbers = std::env::args().skip(1).filter_map(|text| text.parse::<u32>().ok());
+    let rounds = numbers.next().unwrap_or(100);
+    let mut lengths: Vec<usize> = numbers.map(|n| n as usize).collect();
+    if lengths.is_empty() {
+        lengths = vec![64, 512, 2061];
+    }
+    for length in lengths {
         for held in [10u32, 10000] {
             let records = held as usize + 2;
             let mut octets = vec![0; (length + 2) * records + 5];

@@ -7,7 +7,7 @@ use Prim.Native.Nat.{ℕ, _+_, _≤_, _<_}
 use native.Mathlib.Omega.{arith}
 use lib.Dec.{leb, eqb}
 use lib.ListN.{length, take, drop}
-use Rattle.std.specs.declared.option.Option.the-variants.{Some, None}
+use Rattle.std.specs.declared.option.Option.the-variants.{Some}
 use Rattle.std.specs.declared.result.Result.{Result}
 use Rattle.std.specs.declared.result.Result.the-variants.{Ok, Err}
 use Rattle.std.proofs.shelf.Tests.{leb-true, eqb-true, and-parts}
@@ -18,32 +18,19 @@ use Rattle.codec.specs.Fields.{octetAt, twoOctetsAt, stampAt, zeroStampAt}
 use Rattle.codec.specs.Records.{Record, frame, loss, status, endOfData, encode, WellFormed, qualityOctet, statusOctet, frameMark, notificationMark, frameHeader, notificationOctets, lossType, statusType, endOfDataType, dataLengthAllowed}
 use Rattle.codec.specs.RecordReading.{Content, frameContent, lossContent, statusContent, endContent, qualityOf, statusOf, qualityAt, statusAt, zeroAt, dataLengthAt, frameAt, lossAt, statusChangeAt, endOfDataAt, notificationAt, contentAt, recordOf, recordAt}
 use Rattle.codec.specs.declared.record.Quality.{Quality}
+use Rattle.codec.specs.declared.record.Quality.the-variants.{Good, Erred, Undetermined}
 use Rattle.codec.specs.declared.record.ProductionStatus.{ProductionStatus}
-use Rattle.codec.proofs.Results.{same-ok, andThen-ok, cond-ok, cond-cases, orValueFault-ok}
+use Rattle.codec.specs.declared.record.ProductionStatus.the-variants.{Running, Interrupted, Halted}
+use Rattle.codec.proofs.Results.{same-ok, andThen-ok, cond-ok, cond-cases, orValueFault-ok, octet-of, none-left}
 use Rattle.codec.proofs.FieldsRead.{Stands, octet-read, two-octets-read, block-read, stamp-read, zero-stamp-read}
 
-same-some : {X : Type 0} {x y : X} → Some x ≡ Some y → x ≡ y
-same-some h = cc
-
 quality-octet : (n : ℕ) (q : Quality) → qualityOf n ≡ Some q → n ≡ qualityOctet q
-quality-octet n q h =
-    ⊎-elim (λ a. eqb-true n 0 (a .0) ∙ ap qualityOctet (same-some (a .1)))
-    (λ a. ⊎-elim (λ b. eqb-true n 1 (b .0) ∙ ap qualityOctet (same-some (b .1)))
-    (λ b. ⊎-elim (λ c. eqb-true n 2 (c .0) ∙ ap qualityOctet (same-some (c .1)))
-    (λ c. let z : _≡_ {A = ℕ} 0 1 = cc in absurd (omega arith))
-    (cond-cases (eqb n 2) _ _ (b .1)))
-    (cond-cases (eqb n 1) _ _ (a .1)))
-    (cond-cases (eqb n 0) _ _ h)
+quality-octet n q =
+    octet-of qualityOctet n Good _ (octet-of qualityOctet n Erred _ (octet-of qualityOctet n Undetermined _ none-left))
 
 status-octet : (n : ℕ) (s : ProductionStatus) → statusOf n ≡ Some s → n ≡ statusOctet s
-status-octet n s h =
-    ⊎-elim (λ a. eqb-true n 0 (a .0) ∙ ap statusOctet (same-some (a .1)))
-    (λ a. ⊎-elim (λ b. eqb-true n 1 (b .0) ∙ ap statusOctet (same-some (b .1)))
-    (λ b. ⊎-elim (λ c. eqb-true n 2 (c .0) ∙ ap statusOctet (same-some (c .1)))
-    (λ c. let z : _≡_ {A = ℕ} 0 1 = cc in absurd (omega arith))
-    (cond-cases (eqb n 2) _ _ (b .1)))
-    (cond-cases (eqb n 1) _ _ (a .1)))
-    (cond-cases (eqb n 0) _ _ h)
+status-octet n s =
+    octet-of statusOctet n Running _ (octet-of statusOctet n Interrupted _ (octet-of statusOctet n Halted _ none-left))
 
 -- a well-formed record whose octets stand at a place
 pub record Begins (xs : List ℕ) (at : ℕ) (r : Record) : Type 0 where

@@ -14,6 +14,7 @@ use Rattle.codec.specs.declared.fault.Fault.{Fault}
 use Rattle.codec.specs.declared.fault.FaultKind.{FaultKind}
 use Rattle.codec.specs.declared.fault.FaultKind.the-variants.{Short, Value}
 
+-- A fault by its kind and its place.
 abbrev pub fault : FaultKind → ℕ → Fault
 fault kind place = record { kind = kind; place = place }
 

@@ -32,6 +32,7 @@ reasonOf n =
     cond (eqb n 0) (Some End)
     (cond (eqb n 1) (Some Suspend) (cond (eqb n 2) (Some VersionNotSupported) (cond (eqb n 127) (Some Other) None)))
 
+-- The fields of a requested quality and of a reason to unbind.
 abbrev pub requestedQualityAt : List ℕ → ℕ → Result RequestedQuality Fault
 requestedQualityAt xs at = andThen (octetAt xs at) (λ n. orValueFault (requestedQualityOf n) at)
 

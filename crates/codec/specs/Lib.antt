@@ -9,4 +9,3 @@ pub mod RecordReading
 pub mod Reader
 pub mod Invocations
 pub mod InvocationReading
-pub mod Laws

@@ -31,6 +31,7 @@ pub data Content : Type 0 where
   statusContent : ProductionStatus → Content
   endContent : Content
 
+-- The content of a record, of one that may be faulty, and of one that may be absent.
 abbrev pub contentOf : Record → Content
 contentOf (frame q t d) = frameContent q t (length d)
 contentOf (loss t) = lossContent t
@@ -45,7 +46,7 @@ abbrev pub contentIf : Option Record → Option Content
 contentIf (Some r) = Some (contentOf r)
 contentIf None = None
 
--- The content of the code's own type, and of what a reader answers.
+-- The content of the code's own type, and of what the readers of the code answer.
 abbrev pub said : RecordContent → Content
 said (Frame q t n) = frameContent q (stamp t) n
 said (Notification (LossOfFrameSynchronization t)) = lossContent (stamp t)
@@ -135,6 +136,7 @@ recordOf xs at endContent = endOfData
 unfoldable pub recordAt : List ℕ → ℕ → Result Record Fault
 recordAt xs at = andThen (contentAt xs at) (λ c. Ok (recordOf xs at c))
 
+-- A record before those that are read behind it.
 abbrev pub prepended : Record → Result (List Record) Fault → Result (List Record) Fault
 prepended r (Ok rs) = Ok (r ∷ rs)
 prepended r (Err e) = Err e
@@ -150,6 +152,7 @@ recordsFrom (suc n) xs at =
 unfoldable pub recordsIn : List ℕ → Result (List Record) Fault
 recordsIn xs = recordsFrom (length xs) xs 0
 
+-- A record that was read from octets, where they are all its octets.
 abbrev pub whole : List ℕ → Result Record Fault → Option Record
 whole xs (Ok r) = cond (sameBytes (encode r) xs) (Some r) None
 whole xs (Err e) = None

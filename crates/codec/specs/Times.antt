@@ -8,7 +8,6 @@ use Rattle.std.specs.declared.option.Option.the-variants.{Some, None}
 use Rattle.std.specs.declared.result.Result.{Result}
 use Rattle.std.specs.declared.result.Result.the-variants.{Ok, Err}
 use Rattle.codec.specs.Limits.{dayLimit, millisecondLimit, microsecondLimit}
-use Rattle.codec.specs.declared.fault.Fault.{Fault}
 use Rattle.codec.specs.declared.time.Time.{Time}
 use Rattle.codec.specs.declared.time.TimeField.{TimeField}
 use Rattle.codec.specs.declared.time.TimeField.the-variants.{Millisecond, Microsecond}

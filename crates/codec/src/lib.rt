@@ -3,6 +3,5 @@ pub(crate) mod blocks;
 pub mod fault;
 pub(crate) mod fields;
 pub mod invocation;
-pub mod laws;
 pub mod record;
 pub mod time;

@@ -22,12 +22,12 @@ fn play_line(line: CallLine, heap: Global, answers: &mut Vec<u8>) -> Result<(), 
     let mut line = line;
     match line.word {
         b"pdu" => {
-            let pdu = take_octets(&mut line.words, heap, "the octets of the PDU")?;
+            let pdu = take_octets(&mut line.words, heap, "OCTETS of pdu")?;
             take_end(&mut line.words, heap)?;
             say_pdu(answers, heap, pdu.as_slice())?;
         }
         b"invocation" => {
-            let octets = take_octets(&mut line.words, heap, "the octets of the invocation")?;
+            let octets = take_octets(&mut line.words, heap, "OCTETS of invocation")?;
             take_end(&mut line.words, heap)?;
             say_invocation(answers, heap, octets.as_slice())?;
         }

@@ -27,8 +27,8 @@ use Rattle.histories.specs.Invocations.{afterUnbind, isAccepted, lost, selecti
 use Rattle.histories.specs.Provider.{State, endsRun, isTaken, produced, oldest, ending, taking, passing}
 use Rattle.histories.specs.Ledger.{Acceptance, Entry, Ledger, accept, entry, takeOldest, passOldest, endRun, older, countTick, handOver, beginRun, loseAssociation, setPhase, setPending, setPdus, recordOf}
 use Rattle.histories.specs.Statements.{recordsOf, octetsOf}
-use Rattle.codec.proofs.RecordsJoined.{records-written}
-use Rattle.codec.proofs.OneRecord.{one-record-written}
+use Rattle.codec_laws.proofs.RecordsJoined.{records-written}
+use Rattle.codec_laws.proofs.OneRecord.{one-record-written}
 use Rattle.histories.proofs.Pdus.{records-push}
 use Rattle.histories.proofs.Entries.{WellAccepted, WellEntered, well-records, well-older, records-older}
 use Rattle.histories.proofs.LedgerLaws.{lawful-accept, tookOldest, passedOldest, takes-oldest, passes-oldest, lawful-take, lawful-pass, lawful-end, lawful-older, lawful-hand, lawful-pdu, lawful-phase, lawful-begin, lawful-lose}

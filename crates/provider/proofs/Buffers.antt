@@ -16,9 +16,9 @@ use Rattle.codec.specs.Limits.{longestRecord, dataLimit}
 use Rattle.codec.specs.Times.{timely}
 use Rattle.codec.specs.Records.{Record, frame, loss, status, endOfData, encode, WellFormed, dataLengthAllowed}
 use Rattle.codec.specs.RecordReading.{Content, contentOf, contentIf, recordsIn, oneRecord}
-use Rattle.codec.proofs.RecordsJoined.{records-written, joined-append}
+use Rattle.codec_laws.proofs.RecordsJoined.{records-written, joined-append}
 use Rattle.codec.proofs.RecordsWritten.{encode-limit}
-use Rattle.codec.proofs.OneRecord.{one-record-read}
+use Rattle.codec_laws.proofs.OneRecord.{one-record-read}
 use Rattle.histories.specs.Invocations.{isAccepted}
 use Rattle.histories.specs.Provider.{mostRecords}
 use Rattle.provider.specs.Buffers.{buffer-octets, records-or-none, records-held, well-formed, all-well-formed, accepted-count, accepted-content, record-list}

@@ -15,7 +15,7 @@ use Rattle.codec.specs.Records.{endOfData, encode, writeAnswer, bufferAfter}
 use Rattle.codec.specs.RecordReading.{oneRecord}
 use Rattle.codec.specs.declared.record.WriteRefusal.{WriteRefusal}
 use Rattle.codec.proofs.RecordsWritten.{end-length}
-use Rattle.codec.proofs.OneRecord.{one-record-written}
+use Rattle.codec_laws.proofs.OneRecord.{one-record-written}
 
 pub end-written : (out out′ : List ℕ) (a : Result ℕ WriteRefusal) → length out ≡ 12 → a ≡ writeAnswer (length out) endOfData → out′ ≡ bufferAfter out endOfData a → oneRecord out′ ≡ Some endOfData
 end-written out out′ a size answered after =

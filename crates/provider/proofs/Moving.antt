@@ -13,7 +13,7 @@ use Rattle.queue.proofs.Carrying.{read-whole}
 use Rattle.codec.specs.Limits.{longestRecord}
 use Rattle.codec.specs.Records.{Record, encode}
 use Rattle.codec.specs.RecordReading.{Content, contentOf, contentIf, oneRecord}
-use Rattle.codec.proofs.OneRecord.{one-record-read}
+use Rattle.codec_laws.proofs.OneRecord.{one-record-read}
 use Rattle.codec.proofs.RecordsWritten.{encode-limit}
 use Rattle.histories.specs.Queues.{Queue}
 use Rattle.histories.specs.Sessions.{Settings, Session, isActive, late, selected}

@@ -1,13 +1,13 @@
 -- A record that was measured, admitted, read, added and dropped has gone over.
-use mathlib.Core.Path.{_≡_, refl, sym, ap, _∙_}
+use mathlib.Core.Path.{_≡_, sym, ap, _∙_}
 use mathlib.Core.List.{List, [], _∷_, _++_, append-assoc}
-use mathlib.Core.Bool.{Bool, true, cond}
+use mathlib.Core.Bool.{Bool, true}
 use Prim.Native.Nat.{ℕ, _-_, _≤_}
 use native.Mathlib.Omega.{arith}
 use lib.ListN.{length, take, drop}
 use Rattle.std.proofs.shelf.Lists.{take-all, take-at}
 use Rattle.std.proofs.shelf.Tests.{le-leb}
-use Rattle.queue.specs.Answers.{Answer, gives, refuses, admission, add-list, first-answer, read-buffer, rest, fair}
+use Rattle.queue.specs.Answers.{gives, admission, add-list, first-answer, read-buffer, rest, fair}
 use Rattle.queue.specs.Carrying.{carry-answer}
 use Rattle.queue.proofs.Admission.{admitted}
 

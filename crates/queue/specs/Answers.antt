@@ -1,6 +1,6 @@
 -- What each call of a queue answers and copies, from the queue's meaning alone.
 use mathlib.Core.List.{List, [], _∷_, _++_}
-use mathlib.Core.Bool.{Bool, true, false, cond, _&&_}
+use mathlib.Core.Bool.{Bool, cond, _&&_}
 use Prim.Native.Nat.{ℕ, _-_, min}
 use lib.Dec.{leb, ltb}
 use lib.ListN.{length, take, drop}

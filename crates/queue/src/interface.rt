@@ -1,5 +1,4 @@
 ghost use mathlib.Core.Path.{_≡_};
-ghost use Prim.Native.Nat.{ℕ};
 ghost use lib.ListN.{length};
 ghost use Rattle.queue.specs.Answers.{answer-of, capped, add-answer, add-list, first-answer, read-answer, read-buffer, drop-answer, rest};
 ghost use Rattle.queue.specs.Changes.{Kept, Changed};

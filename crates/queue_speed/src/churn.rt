@@ -50,8 +50,8 @@ pub fn churn<Q: Queue>(
     tally: &mut Tally,
 ) {
     for number in 0..rounds {
-        mark(record, number);
         let _ = queue.add(record);
+        mark(record, number);
         if let Ok(n) = queue.read_from(0, out) {
             tally.octets = tally.octets.wrapping_add(n as u64);
             tally.sum = tally.sum.wrapping_add(ends(out));

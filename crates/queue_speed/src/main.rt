@@ -7,36 +7,45 @@ mod piles;
 
 use piles::Load;
 
-// How often a record is added, read and dropped in a batch where no argument says it.
+// How often a record is added, read and dropped in a batch, and the lengths of records, where no argument says it.
 const ROUNDS: u32 = 100;
 
-// The number of rounds in a batch that the first argument asks for.
-fn rounds_wanted(rt: &LibcRuntime) -> io::Result<u32> {
-    let mut arguments = env::args(rt)?;
-    let _program = arguments.next();
-    match arguments.next() {
-        Some(text) => match text.parse::<u32>() {
-            Ok(rounds) => Ok(rounds),
-            Err(_) => Ok(ROUNDS),
-        },
-        None => Ok(ROUNDS),
-    }
-}
+const LENGTHS: [usize; 3] = [64, 512, 2061];
 
-fn main(rt: LibcRuntime) -> io::Result<()> {
-    limits::show(&rt)?;
-    let rounds = rounds_wanted(&rt)?;
-    for length in [64, 512, 2061] {
+// Plays each queue with records of each length, with few and with many records held.
+fn play(rt: &LibcRuntime, rounds: u32, lengths: &[usize]) -> io::Result<()> {
+    for length in lengths {
         for held in [10, 10000] {
             let load = Load {
-                length,
+                length: *length,
                 held,
                 rounds,
             };
-            piles::packed(&rt, load)?;
-            piles::slot(&rt, load)?;
-            piles::tandem(&rt, load)?;
+            piles::packed(rt, load)?;
+            piles::slot(rt, load)?;
+            piles::tandem(rt, load)?;
         }
     }
     Ok(())
+}
+
+// The arguments are the rounds in a batch, and then lengths. Lengths come from memory, so that the compiler makes one
+// code for all of them, as it has to for records from outside.
+fn main(rt: LibcRuntime) -> io::Result<()> {
+    limits::show(&rt)?;
+    let mut rounds = ROUNDS;
+    let mut lengths = Vec::new(rt.alloc());
+    for (place, text) in env::args(&rt)?.enumerate() {
+        if let Ok(number) = text.parse::<u32>() {
+            if place == 1 {
+                rounds = number;
+            } else {
+                lengths.push(number as usize)?;
+            }
+        }
+    }
+    if lengths.is_empty() {
+        lengths = Vec::from_slice(rt.alloc(), &LENGTHS)?;
+    }
+    play(&rt, rounds, &lengths)
 }

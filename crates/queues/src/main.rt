@@ -10,6 +10,8 @@ use std::io::Write;
 mod answer;
 mod call;
 mod play;
+#[cfg(test)]
+mod tests;
 
 fn run(rt: &LibcRuntime) -> Result<(), AnyError> {
     let heap = rt.alloc();

@@ -2,19 +2,18 @@
 use mathlib.Core.Path.{_≡_, refl, sym, ap, _∙_}
 use mathlib.Core.Bool.{Bool, true, false, cond}
 use mathlib.Core.List.{List, [], _∷_}
-use Prim.Native.Nat.{ℕ, suc, _+_, _-_, _≤_, _<_}
+use Prim.Native.Nat.{ℕ, suc, _+_, _-_, min, _≤_, _<_}
 use native.Mathlib.Omega.{arith}
 use native.Mathlib.Numerals.{add-one}
 use lib.ListN.{length, getD, take, drop, length-take}
 use lib.Seq.{drop-cons}
-use Rattle.std.specs.declared.option.Option.{Option}
 use Rattle.std.specs.declared.option.Option.the-variants.{Some, None}
 use Rattle.std.proofs.shelf.Lists.{drop-all, take-rest}
 use Rattle.script.specs.declared.run.Class.{Class}
 use mathlib.Core.Logic.{_⊎_, inl, inr}
 use Rattle.script.specs.declared.run.Class.the-variants.{Blank, Word, Line as in-line}
 use Rattle.script.specs.Text.{in-class, run-length, behind, nonempty, first-word, after-word}
-use Rattle.script.specs.Lines.{first-line, after-line}
+use Rattle.script.specs.Lines.{first-line, after-line, number-limit, number-after}
 
 one-more : (b : Bool) (r l : ℕ) → r ≤ l → cond b (suc r) 0 ≤ suc l
 one-more true r l h = omega arith
@@ -69,9 +68,13 @@ module _ (os : List ℕ) (s n : ℕ) (s-is : s ≡ run-length Blank os) (n-is : 
       ap (λ q. Some (take q (take (length os - s) (drop s os)))) z ∙ ap Some word-is ∙ sym (a-word (behind Blank os) (run-length Word (behind Blank os)) (omega (arith, length-is)) w)
 
 -- the parts that `Lines.next` cuts are the first line and what stands behind it
-pub no-line-is : (os : List ℕ) → length os ≡ 0 → (None ≡ first-line os) × (os ≡ after-line os)
-no-line-is [] e = (refl, refl)
-no-line-is (o ∷ os) e = absurd (omega arith)
+pub no-line-is : (os : List ℕ) (m : ℕ) → length os ≡ 0 → (None ≡ first-line os) × (os ≡ after-line os) × (m ≡ number-after m os)
+no-line-is [] m e = (refl, refl, refl)
+no-line-is (o ∷ os) m e = absurd (omega arith)
+
+pub one-line-more : (os : List ℕ) (m : ℕ) → 0 < length os → min (m + 1) number-limit ≡ number-after m os
+one-line-more [] m p = absurd (omega arith)
+one-line-more (o ∷ os) m p = refl
 
 pub line-is : (os : List ℕ) (n : ℕ) → 0 < length os → n ≡ run-length in-line os → Some (take (n - 0) os) ≡ first-line os
 line-is [] n p e = absurd (omega arith)

@@ -1,6 +1,6 @@
 ghost use mathlib.Core.Path.{_≡_};
 ghost use lib.ListN.{length};
-ghost use Rattle.script.specs.Lines.{first-line, after-line, line-text};
+ghost use Rattle.script.specs.Lines.{first-line, after-line, line-text, number-after, Numbered};
 use crate::run::Class;
 use crate::run::run_length;
 
@@ -33,6 +33,8 @@ impl<'a> Lines<'a> {
     pub fn next(&mut self) -> Option<Line<'a>>
         ensures line { λ r. ⌜ line-text r ≡ first-line (now (now (self .entry) .rest)) ⌝ }
         ensures rest { λ _. ⌜ now (now (self .exit) .rest) ≡ after-line (now (now (self .entry) .rest)) ⌝ }
+        ensures number { λ _. ⌜ now (self .exit) .number ≡ number-after (now (self .entry) .number) (now (now (self .entry) .rest)) ⌝ }
+        ensures numbered { λ r. ⌜ Numbered r (now (self .exit) .number) ⌝ }
     {
         let rest = self.rest;
         if rest.len() == 0 {

@@ -1,6 +1,5 @@
 ghost use mathlib.Core.Path.{_≡_};
-ghost use Prim.Native.Nat.{ℕ, _≤_, _^_};
-ghost use lib.ListN.{length};
+ghost use Prim.Native.Nat.{_≤_, _^_};
 ghost use Rattle.script.specs.Numbers.{decimal, number-answer};
 ghost use Rattle.std.specs.Options.{Cases};
 ghost use Rattle.std.specs.Vec.{made};

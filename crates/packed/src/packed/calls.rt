@@ -1,6 +1,6 @@
 ghost use mathlib.Core.Path.{_≡_};
 ghost use mathlib.Core.List.{[], _∷_, _++_};
-ghost use Prim.Native.Nat.{ℕ, _+_, _^_, _≤_, _<_};
+ghost use Prim.Native.Nat.{ℕ, _+_, _/_, _%_, _^_, _≤_, _<_};
 ghost use lib.ListN.{length};
 ghost use Rattle.queue.specs.Answers.{answer-of, first-answer};
 ghost use Rattle.ring.specs.Rings.{elements};
@@ -9,6 +9,14 @@ ghost use Rattle.packed.specs.Holding.{held-in, octets-in};
 use super::Packed;
 use queue::refusal::Refusal;
 use ring::ring::Ring;
+
+// The octets that stand before a record of `n` octets, the high octet first.
+fn length_octets(n: usize) -> [u8; 2]
+    requires { ⌜ n ≤ length-limit ⌝ }
+    ensures { λ r. ⌜ r ≡ (n / 256) ∷ ((n % 256) ∷ []) ⌝ }
+{
+    [(n / 256) as u8, (n % 256) as u8]
+}
 
 impl<'a> Packed<'a> {
     // An empty queue over these octets.
@@ -28,8 +36,7 @@ impl<'a> Packed<'a> {
         ensures list { λ _. ⌜ held-in (now (self .exit)) ≡ held-in (now (self .entry)) ++ (now (octets .entry) ∷ []) ⌝ }
         ensures same { λ _. ⌜ octets-in (now (self .exit)) ≡ octets-in (now (self .entry)) ⌝ }
     {
-        let n = octets.len();
-        let head = [(n / 256) as u8, (n % 256) as u8];
+        let head = length_octets(octets.len());
         let count = self.count;
         let _ = self.ring.add_run(&head);
         let _ = self.ring.add_run(octets);

@@ -56,7 +56,8 @@ impl<'a, T: Copy> Ring<'a, T> {
         ensures list { λ _. ⌜ elements (now (self .exit)) ≡ elements (now (self .entry)) ⌝ }
         ensures same { λ _. ⌜ size (now (self .exit)) ≡ size (now (self .entry)) ⌝ }
     {
-        self.count.min(self.slots.len())
+        self.settle();
+        self.count
     }
 
     // Puts a run behind the elements held, if the whole of it fits.

@@ -1,8 +1,5 @@
 use borrow.Author.Needs.{needs}
-use mathlib.Core.Path.{_≡_, sym, ap, _∙_}
 use native.Mathlib.Omega.{arith}
-use Rattle.queue.specs.Answers.{gives, first-answer, admission, read-buffer, add-list, rest}
-use lib.ListN.{take}
 use Rattle.queue.proofs.Carrying.{gone-over}
 use Rattle.queue.proofs.carry.carry.Needs as need
 

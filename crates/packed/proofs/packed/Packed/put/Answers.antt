@@ -1,7 +1,7 @@
 use native.Mathlib.Omega.{arith}
-use mathlib.Core.Path.{_∙_}
-use Rattle.ring.specs.Rings.{elements, size}
-use Rattle.packed.specs.Holding.{held-in}
+use mathlib.Core.Path.{ap, _∙_}
+use Rattle.ring.specs.Rings.{elements, size, added}
+use Rattle.packed.specs.Holding.{held-in, octets-in}
 use Rattle.packed.proofs.Packs.{put-behind, few, used-is}
 use Rattle.packed.proofs.packed.Packed.put.Needs as need
 
@@ -14,14 +14,16 @@ add-self c =
 
 pub ghost-self : need.ghost-self
 ghost-self c =
+    let me = c .args .self .now in
     let first = c .add-run .last .self in
-    let p = put-behind (c .args .self .now) (elements first) (elements (c .add-run-2 .last .self)) (c .args .octets .now) (size first)
-    (c .add-run .ensures .list) (c .add-run .ensures .same) (c .add-run-2 .ensures .list) (c .pre .0) in
+    let p = put-behind me (elements first) (elements (c .add-run-2 .last .self)) (c .args .octets .now) (size first)
+    (c .add-run .ensures .list ∙ ap (added (elements (me .ring)) (octets-in me)) (c .length-octets-head .ensures)) (c .add-run .ensures .same) (c .add-run-2 .ensures .list) (c .pre .0) in
     (p .1, (p .2, tt))
 
 pub returns : need.returns
 returns c =
+    let me = c .args .self .now in
     let first = c .add-run .last .self in
-    let p = put-behind (c .args .self .now) (elements first) (elements (c .add-run-2 .last .self)) (c .args .octets .now) (size first)
-    (c .add-run .ensures .list) (c .add-run .ensures .same) (c .add-run-2 .ensures .list) (c .pre .0) in
+    let p = put-behind me (elements first) (elements (c .add-run-2 .last .self)) (c .args .octets .now) (size first)
+    (c .add-run .ensures .list ∙ ap (added (elements (me .ring)) (octets-in me)) (c .length-octets-head .ensures)) (c .add-run .ensures .same) (c .add-run-2 .ensures .list) (c .pre .0) in
     record { list = p .0; same = c .add-run-2 .ensures .same ∙ c .add-run .ensures .same }

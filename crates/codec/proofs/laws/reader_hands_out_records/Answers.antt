@@ -1,5 +1,0 @@
-use Rattle.codec.proofs.HandedOut.{reader-hands-out-records}
-use Rattle.codec.proofs.laws.reader_hands_out_records.Needs as need
-
-pub returns : need.returns
-returns c = reader-hands-out-records

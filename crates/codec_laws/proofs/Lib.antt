@@ -1,0 +1,12 @@
+pub mod RecordsJoined
+pub mod OneRecord
+pub mod InvocationsWritten
+pub mod InvocationsRead
+pub mod TimesOrdered
+pub mod HandedOut
+pub mod Steady
+pub mod FieldsSteady
+pub mod RecordsSteady
+pub mod RecordFaults
+pub mod InvocationFaults
+pub mod Readings
