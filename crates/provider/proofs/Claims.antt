@@ -1,6 +1,6 @@
 -- A call that leads where its outcome says is a step, and so goes on with every history.
-use mathlib.Core.Path.{_≡_, refl, sym, ap, _∙_}
-use mathlib.Core.List.{List, []}
+use mathlib.Core.Path.{_≡_, refl}
+use mathlib.Core.List.{List}
 use Prim.Native.Nat.{ℕ}
 use Rattle.histories.specs.Calls.{Call, Answer, Outcome, says}
 use Rattle.histories.specs.Provider.{State, outcome}

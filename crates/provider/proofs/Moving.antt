@@ -1,6 +1,6 @@
 -- What a move comes to.
 use mathlib.Core.Path.{_≡_, refl, sym, ap, _∙_}
-use mathlib.Core.Bool.{Bool, true, false, cond, _||_}
+use mathlib.Core.Bool.{Bool, true, false, cond}
 use mathlib.Core.List.{List, [], _∷_, _++_}
 use Prim.Native.Nat.{ℕ, _-_, _≤_, _<_}
 use native.Mathlib.Omega.{arith}
@@ -11,13 +11,12 @@ use Rattle.std.proofs.shelf.Lists.{take-at}
 use Rattle.queue.specs.Answers.{gives, refuses, first-answer, read-buffer}
 use Rattle.queue.proofs.Carrying.{read-whole}
 use Rattle.codec.specs.Limits.{longestRecord}
-use Rattle.codec.specs.Records.{Record, encode}
-use Rattle.codec.specs.RecordReading.{Content, contentOf, contentIf, oneRecord}
+use Rattle.codec.specs.Records.{Record}
+use Rattle.codec.specs.RecordReading.{contentOf, contentIf, oneRecord}
 use Rattle.codec_laws.proofs.OneRecord.{one-record-read}
 use Rattle.codec.proofs.RecordsWritten.{encode-limit}
-use Rattle.histories.specs.Queues.{Queue}
-use Rattle.histories.specs.Sessions.{Settings, Session, isActive, late, selected}
-use Rattle.histories.specs.Calls.{Outcome, says, idle}
+use Rattle.histories.specs.Sessions.{Session, isActive, late, selected}
+use Rattle.histories.specs.Calls.{says, idle}
 use Rattle.histories.specs.Delivery.{send}
 use Rattle.histories.specs.Provider.{State, oldest, ending, taking, passing, moveRecord, mustSend, moveBy}
 

@@ -6,7 +6,7 @@ use Prim.Native.Nat.{ℕ, zero, suc}
 use native.Mathlib.Omega.{arith}
 use Rattle.std.specs.declared.option.Option.the-variants.{Some, None}
 use Rattle.histories.specs.Queues.{Queue, Lawful}
-use Rattle.histories.specs.Sessions.{Settings, Session}
+use Rattle.histories.specs.Sessions.{Settings}
 use Rattle.histories.specs.Provider.{State, inRange, openingNumber, leastSettings, fresh, openedAs, opened}
 use Rattle.histories.specs.Histories.{History, opens}
 use Rattle.histories.proofs.Soundness.{sound}

@@ -1,16 +1,16 @@
 -- A queue of the code by its meaning: kept, lawful, with one record more or less.
-use mathlib.Core.Path.{_≡_, refl, sym, ap, ap₂, _∙_, subst}
-use mathlib.Core.Bool.{Bool, true, false, cond, _&&_}
-use mathlib.Core.List.{List, [], _∷_, _++_}
+use mathlib.Core.Path.{_≡_, refl, sym, ap, _∙_}
+use mathlib.Core.Bool.{Bool, true, false, _&&_}
+use mathlib.Core.List.{List, [], _∷_}
 use Prim.Native.Nat.{ℕ, _≤_, _<_}
 use native.Mathlib.Omega.{arith}
 use lib.ListN.{length}
 use Rattle.std.proofs.shelf.Tests.{lt-ltb, le-leb}
 use Rattle.queue.specs.declared.meaning.Meaning.{Ghosts}
-use Rattle.queue.specs.Answers.{Answer, gives, refuses, fair, add-answer, add-list, first-answer, rest}
+use Rattle.queue.specs.Answers.{gives, refuses, fair, add-answer, add-list, first-answer, rest}
 use Rattle.queue.specs.Changes as changes
 use Rattle.queue.proofs.Admission.{admitted}
-use Rattle.histories.specs.Queues.{Queue, Lawful, Added, Dropped}
+use Rattle.histories.specs.Queues.{Lawful, Added, Dropped}
 use Rattle.provider.specs.States.{queue-of}
 
 module _ {Q : Type 0} (g : Ghosts Q) where

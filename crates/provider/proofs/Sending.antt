@@ -1,12 +1,10 @@
 -- What sending the whole transfer buffer comes to.
-use mathlib.Core.Path.{_≡_, refl, sym, ap, _∙_, subst}
+use mathlib.Core.Path.{_≡_, refl, sym, subst}
 use mathlib.Core.Bool.{Bool, true, false, cond}
-use mathlib.Core.List.{List, []}
-use Prim.Native.Nat.{ℕ}
+use mathlib.Core.List.{[]}
 use native.Mathlib.Omega.{arith}
 use lib.ListN.{length, take, drop}
 use Rattle.std.proofs.shelf.Lists.{take-all, drop-all}
-use Rattle.codec.specs.Records.{Record}
 use Rattle.histories.specs.Queues.{Queue, keep, add}
 use Rattle.histories.specs.Sessions.{Session, holding}
 use Rattle.histories.specs.Calls.{Answer, Outcome, says, sent, waiting}

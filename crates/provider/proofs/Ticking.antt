@@ -1,16 +1,15 @@
 -- What a tick comes to.
-use mathlib.Core.Path.{_≡_, refl, ap, _∙_}
-use mathlib.Core.Bool.{Bool, true, false, cond, _&&_, and-false}
+use mathlib.Core.Path.{_≡_, refl}
+use mathlib.Core.Bool.{true, false, and-false}
 use mathlib.Core.List.{List, [], _∷_}
-use Prim.Native.Nat.{ℕ, suc, _+_, _≤_, _<_}
+use Prim.Native.Nat.{suc, _≤_, _<_}
 use native.Mathlib.Omega.{arith}
 use lib.ListN.{length}
-use lib.Dec.{ltb}
 use Rattle.std.proofs.shelf.Tests.{lt-ltb, le-ltb}
 use Rattle.codec.specs.Records.{Record}
 use Rattle.histories.specs.Queues.{Queue}
 use Rattle.histories.specs.Sessions.{Settings, Session, isActive, aged}
-use Rattle.histories.specs.Calls.{Outcome, says, quiet}
+use Rattle.histories.specs.Calls.{says, quiet}
 use Rattle.histories.specs.Delivery.{send, isFilled, tickBy}
 
 pub empty-is : (rs : List Record) → length rs ≡ 0 → isFilled rs ≡ false

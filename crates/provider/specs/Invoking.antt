@@ -1,6 +1,5 @@
 -- What an invocation does to a session, step by step as the code takes it.
 use mathlib.Core.Path.{_≡_}
-use Prim.Native.Nat.{ℕ}
 use Rattle.std.specs.declared.result.Result.{Result}
 use Rattle.std.specs.declared.result.Result.the-variants.{Ok, Err}
 use Rattle.codec.specs.declared.invocation.InvocationFault.{InvocationFault}
@@ -9,7 +8,7 @@ use Rattle.histories.specs.Sessions as sessions
 use Rattle.histories.specs.Calls.{Outcome, refuses, protocolError}
 use Rattle.histories.specs.Invocations.{discard, byFault}
 use Rattle.provider.specs.Answers.{performed-answer}
-use Rattle.provider.specs.Sessions.{settings-of, session-of}
+use Rattle.provider.specs.Sessions.{session-of}
 use Rattle.provider.specs.declared.answer.Performed.{Performed}
 use Rattle.provider.specs.declared.session.Session.{Session}
 

@@ -1,5 +1,4 @@
 -- The code's session, as the provider's definition has it.
-use Prim.Native.Nat.{ℕ}
 use Rattle.codec.specs.Invocations.{named}
 use Rattle.histories.specs.Sessions as sessions
 use Rattle.provider.specs.Selections.{phase-of, selection-of}

@@ -1,7 +1,7 @@
 use codec::invocation::RequestedQuality;
 use codec::time::Time;
 
-pub(crate) mod tests_of_records;
+pub(crate) mod records;
 
 // What a START asks for: frames of a quality, not before start, and not later than stop.
 #[derive(Clone, Copy)]

@@ -1,5 +1,4 @@
 ghost use mathlib.Core.List.{[]};
-ghost use mathlib.Core.Path.{_≡_};
 ghost use Rattle.codec.specs.Records.{frame, notified};
 ghost use Rattle.codec.specs.Times.{stamp};
 ghost use Rattle.histories.specs.Calls.{acquire, note};

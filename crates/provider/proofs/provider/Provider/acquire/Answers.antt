@@ -1,4 +1,4 @@
-use mathlib.Core.Path.{_≡_, refl, sym, ap, _∙_}
+use mathlib.Core.Path.{refl, sym, ap, _∙_}
 use mathlib.Core.List.{[]}
 use Rattle.std.specs.declared.option.Option.the-variants.{Some}
 use Rattle.codec.specs.Records.{frame}
@@ -7,7 +7,7 @@ use Rattle.histories.specs.Calls.{acquire, argument, asFrame, refused, refuses}
 use Rattle.histories.specs.Provider.{receive}
 use Rattle.provider.specs.Answers.{reception-answer}
 use Rattle.provider.specs.Sessions.{session-of}
-use Rattle.provider.specs.States.{state-of, queue-of, numbers}
+use Rattle.provider.specs.States.{state-of, numbers}
 use Rattle.provider.proofs.Claims.{stays, called}
 use Rattle.provider.proofs.Receiving.{closed-refuses, open-receives, untimely, copies-nothing, no-time, a-time}
 use Rattle.provider.proofs.provider.Provider.acquire.Needs as need

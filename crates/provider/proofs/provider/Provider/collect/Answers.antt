@@ -1,9 +1,9 @@
-use mathlib.Core.Path.{_≡_, refl, sym, ap, _∙_}
+use mathlib.Core.Path.{refl, sym, ap, _∙_}
 use native.Mathlib.Omega.{arith}
 use lib.ListN.{length}
 use Rattle.queue.specs.Answers.{number, read-buffer, rest}
 use Rattle.histories.specs.Calls.{collect, collected, refused, refuses}
-use Rattle.histories.specs.Delivery.{collectBy, collecting}
+use Rattle.histories.specs.Delivery.{collecting}
 use Rattle.provider.specs.Sessions.{session-of}
 use Rattle.provider.specs.States.{state-of, copied-into}
 use Rattle.provider.proofs.Claims.{called}

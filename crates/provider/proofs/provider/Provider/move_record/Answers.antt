@@ -1,4 +1,4 @@
-use mathlib.Core.Path.{_≡_, refl, sym, _∙_}
+use mathlib.Core.Path.{refl, sym, _∙_}
 use mathlib.Core.List.{[]}
 use Rattle.histories.specs.Calls.{move, idle, sent, waiting, says}
 use Rattle.histories.specs.Delivery.{send}

@@ -1,16 +1,15 @@
-use mathlib.Core.Path.{_≡_, refl, sym, ap, _∙_}
+use mathlib.Core.Path.{refl, sym, ap, _∙_}
 use mathlib.Core.List.{_++_}
 use Prim.Native.Nat.{_-_}
 use native.Mathlib.Omega.{arith}
 use lib.ListN.{take, replicate}
-use Rattle.std.specs.declared.option.Option.the-variants.{Some}
 use Rattle.queue.specs.Answers.{number, read-buffer, rest}
 use Rattle.codec.specs.RecordReading.{said}
 use Rattle.histories.specs.Calls.{says, idle}
 use Rattle.histories.specs.Provider.{oldest, ending, taking, passing, moveRecord}
 use Rattle.histories.specs.Sessions.{holding, aged, ageAtEntry}
 use Rattle.provider.specs.Buffers.{record-list}
-use Rattle.provider.specs.Selections.{selection-of, late-content, selected-content}
+use Rattle.provider.specs.Selections.{late-content, selected-content}
 use Rattle.provider.specs.Sessions.{settings-of, session-of}
 use Rattle.provider.specs.States.{state-of}
 use Rattle.provider.proofs.Buffers.{one-of}

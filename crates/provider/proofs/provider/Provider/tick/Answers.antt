@@ -1,13 +1,12 @@
 use mathlib.Core.Path.{_≡_, refl, sym, ap, _∙_}
 use mathlib.Core.List.{[]}
 use mathlib.Core.Bool.{true}
-use Prim.Native.Nat.{suc, _≤_}
+use Prim.Native.Nat.{suc}
 use native.Mathlib.Omega.{arith}
 use Rattle.histories.specs.Calls.{tick, quiet, sent, waiting, says}
 use Rattle.histories.specs.Delivery.{send, isFilled}
-use Rattle.histories.specs.Sessions.{aged, isActive}
+use Rattle.histories.specs.Sessions.{aged}
 use Rattle.provider.specs.Held.{records-of}
-use Rattle.provider.specs.Selections.{phase-of}
 use Rattle.provider.specs.Sessions.{settings-of, session-of}
 use Rattle.provider.specs.States.{queue-of, state-of}
 use Rattle.provider.specs.declared.session.Session.{Session}

@@ -1,5 +1,4 @@
 use mathlib.Core.Path.{refl, sym, ap}
-use mathlib.Core.Bool.{true}
 use native.Mathlib.Omega.{arith}
 use lib.ListN.{length}
 use Rattle.std.specs.shelf.Lists.{joined}

@@ -1,6 +1,5 @@
 use mathlib.Core.Path.{refl}
 use native.Mathlib.Omega.{arith}
-use lib.ListN.{length}
 use Rattle.codec.specs.RecordReading.{said}
 use Rattle.provider.specs.declared.transfer_buffer.TransferBuffer.{TransferBuffer}
 use Rattle.provider.proofs.Buffers.{Kept, room-for-one, pushed, accepted-small}

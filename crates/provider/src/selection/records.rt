@@ -2,7 +2,7 @@ ghost use mathlib.Core.Bool.{_&&_, not};
 ghost use mathlib.Core.Path.{_≡_};
 ghost use Rattle.codec.specs.RecordReading.{said};
 ghost use Rattle.codec.specs.Times.{stamp, stampIf, compared};
-ghost use Rattle.histories.specs.Sessions.{requests, isBefore, beforeStart, afterStop, emptySpan};
+ghost use Rattle.histories.specs.Sessions.{requests, isBefore, beforeStart, emptySpan};
 ghost use Rattle.provider.specs.Selections.{selection-of, late-content, selected-content};
 use super::Selection;
 use codec::invocation::RequestedQuality;
