@@ -1,27 +1,26 @@
 -- A record by its content: what the reader of the code knows of it.
 use mathlib.Core.Path.{_≡_, refl, sym, ap, _∙_}
-use mathlib.Core.Bool.{Bool, true, false, cond}
-use mathlib.Core.List.{List, [], _∷_, _++_}
-use mathlib.Core.Logic.{_⊎_, inl, inr, ⊎-elim}
-use Prim.Native.Nat.{ℕ, _+_, _-_, _≤_, _<_}
+use mathlib.Core.Bool.{false}
+use mathlib.Core.List.{List, []}
+use mathlib.Core.Logic.{_⊎_, ⊎-elim}
+use Prim.Native.Nat.{ℕ, _+_, _≤_}
 use native.Mathlib.Omega.{arith}
 use lib.ListN.{length, take, drop}
-use Rattle.std.specs.declared.option.Option.{Option}
 use Rattle.std.specs.declared.option.Option.the-variants.{Some, None}
 use Rattle.std.specs.declared.result.Result.{Result}
 use Rattle.std.specs.declared.result.Result.the-variants.{Ok, Err}
 use Rattle.std.specs.shelf.Text.{sameBytes}
 use Rattle.std.proofs.shelf.Equals.{sameBytes-decides}
 use Rattle.std.proofs.shelf.Tests.{cases-bool}
-use Rattle.std.proofs.shelf.Lists.{append-nil, drop-all, take-at}
+use Rattle.std.proofs.shelf.Lists.{append-nil, take-at}
 use Rattle.codec.specs.Limits.{frameHeaderLength}
 use Rattle.codec.specs.Octets.{Octets}
 use Rattle.codec.specs.Blocks.{blockAt}
 use Rattle.codec.specs.Fields.{andThen}
-use Rattle.codec.specs.Records.{Record, encode}
+use Rattle.codec.specs.Records.{encode}
 use Rattle.codec.specs.RecordReading.{Content, frameContent, lossContent, statusContent, endContent, contentOf, contentOr, contentIf, contentAt, recordOf, recordAt, oneRecord, said, saidOr, size}
 use Rattle.std.specs.Vec.{made}
-use Rattle.codec.specs.Reader.{Part, partAt}
+use Rattle.codec.specs.Reader.{partAt}
 use Rattle.codec.specs.declared.fault.Fault.{Fault}
 use Rattle.codec.specs.declared.record.RecordContent.{RecordContent}
 use Rattle.codec.proofs.FieldsRead.{block-read}

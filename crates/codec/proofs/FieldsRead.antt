@@ -1,13 +1,12 @@
 -- A field that was read stands at its place as it is written.
-use mathlib.Core.Path.{_≡_, refl, sym, ap, subst, _∙_}
+use mathlib.Core.Path.{_≡_, sym, ap, subst, _∙_}
 use mathlib.Core.Bool.{true}
 use mathlib.Core.List.{List, [], _∷_, _++_}
 use Prim.Native.Nat.{ℕ, _+_, _*_, _/_, _%_, _≤_, _<_}
 use native.Mathlib.Omega.{arith}
 use lib.Dec.{leb, eqb}
 use lib.ListN.{length, take, drop, getD}
-use Rattle.std.specs.declared.result.Result.{Result}
-use Rattle.std.specs.declared.result.Result.the-variants.{Ok, Err}
+use Rattle.std.specs.declared.result.Result.the-variants.{Ok}
 use Rattle.std.proofs.shelf.Tests.{leb-true, le-leb, eqb-true, and-from}
 use Rattle.std.proofs.shelf.Lists.{drop-more, drop-drop, take-append-drop, length-take-le, length-drop}
 use Rattle.codec.specs.Limits.{dayLimit, millisecondLimit, microsecondLimit, twoOctetLimit, timeLength}

@@ -1,18 +1,17 @@
 -- A field that stands at a place as it was written reads as what was written.
 use mathlib.Core.Path.{_≡_, refl, sym, ap, _∙_}
 use mathlib.Core.Bool.{true, _&&_}
-use mathlib.Core.List.{List, [], _∷_, _++_, append-assoc}
-use Prim.Native.Nat.{ℕ, _+_, _-_, _*_, _/_, _%_, _≤_, _<_}
+use mathlib.Core.List.{List, _∷_, _++_}
+use Prim.Native.Nat.{ℕ, _+_, _*_, _/_, _%_, _≤_, _<_}
 use native.Mathlib.Omega.{arith}
 use lib.Dec.{leb}
 use lib.ListN.{length, take, drop, getD, length-append}
-use Rattle.std.specs.declared.result.Result.{Result}
-use Rattle.std.specs.declared.result.Result.the-variants.{Ok, Err}
+use Rattle.std.specs.declared.result.Result.the-variants.{Ok}
 use Rattle.std.proofs.shelf.Lists.{getD-drop, length-drop, drop-drop, drop-at, take-at}
 use Rattle.std.proofs.shelf.Tests.{le-leb, leb-true, and-parts}
 use Rattle.codec.specs.Limits.{dayLimit, millisecondLimit, microsecondLimit, twoOctetLimit}
 use Rattle.codec.specs.Times.{Stamp, timely, zeroStamp, twoOctets, fourOctets, stampOctets}
-use Rattle.codec.specs.Fields.{octetAt, twoOctetsAt, fourOctetsAt, present, stampAt, zeroStampAt}
+use Rattle.codec.specs.Fields.{octetAt, twoOctetsAt, fourOctetsAt, stampAt, zeroStampAt}
 
 -- the octets of a number make the number again
 pub two-octets-back : (n : ℕ) → n ≤ twoOctetLimit → (n / 256 % 256) * 256 + n % 256 ≡ n

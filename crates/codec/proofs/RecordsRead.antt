@@ -1,22 +1,20 @@
 -- A record that was read is well formed, and stands at its place as it is written.
-use mathlib.Core.Path.{_≡_, refl, sym, ap, subst, _∙_}
-use mathlib.Core.Bool.{Bool, true, false, cond, _&&_}
-use mathlib.Core.List.{List, [], _∷_, _++_}
-use mathlib.Core.Logic.{_⊎_, inl, inr, ⊎-elim}
-use Prim.Native.Nat.{ℕ, _+_, _≤_, _<_}
+use mathlib.Core.Path.{_≡_, sym, ap, subst, _∙_}
+use mathlib.Core.List.{List, _∷_, _++_}
+use mathlib.Core.Logic.{_⊎_, ⊎-elim}
+use Prim.Native.Nat.{ℕ, _+_, _≤_}
 use native.Mathlib.Omega.{arith}
 use lib.Dec.{leb, eqb}
 use lib.ListN.{length, take, drop}
 use Rattle.std.specs.declared.option.Option.the-variants.{Some}
-use Rattle.std.specs.declared.result.Result.{Result}
-use Rattle.std.specs.declared.result.Result.the-variants.{Ok, Err}
+use Rattle.std.specs.declared.result.Result.the-variants.{Ok}
 use Rattle.std.proofs.shelf.Tests.{leb-true, eqb-true, and-parts}
 use Rattle.codec.specs.Limits.{timeLength, dataLimit, frameHeaderLength, notificationLength}
 use Rattle.codec.specs.Octets.{Octets}
 use Rattle.codec.specs.Times.{Stamp, zeroStamp, twoOctets, stampOctets}
 use Rattle.codec.specs.Fields.{octetAt, twoOctetsAt, stampAt, zeroStampAt}
-use Rattle.codec.specs.Records.{Record, frame, loss, status, endOfData, encode, WellFormed, qualityOctet, statusOctet, frameMark, notificationMark, frameHeader, notificationOctets, lossType, statusType, endOfDataType, dataLengthAllowed}
-use Rattle.codec.specs.RecordReading.{Content, frameContent, lossContent, statusContent, endContent, qualityOf, statusOf, qualityAt, statusAt, zeroAt, dataLengthAt, frameAt, lossAt, statusChangeAt, endOfDataAt, notificationAt, contentAt, recordOf, recordAt}
+use Rattle.codec.specs.Records.{Record, frame, encode, WellFormed, qualityOctet, statusOctet, frameMark, notificationMark, notificationOctets, lossType, statusType, endOfDataType, dataLengthAllowed}
+use Rattle.codec.specs.RecordReading.{Content, qualityOf, statusOf, qualityAt, statusAt, zeroAt, dataLengthAt, frameAt, lossAt, statusChangeAt, endOfDataAt, notificationAt, contentAt, recordOf, recordAt}
 use Rattle.codec.specs.declared.record.Quality.{Quality}
 use Rattle.codec.specs.declared.record.Quality.the-variants.{Good, Erred, Undetermined}
 use Rattle.codec.specs.declared.record.ProductionStatus.{ProductionStatus}

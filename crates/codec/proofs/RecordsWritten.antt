@@ -1,18 +1,16 @@
 -- A record that stands at a place as it was written reads as that record.
-use mathlib.Core.Path.{_≡_, refl, sym, ap, _∙_}
-use mathlib.Core.Bool.{true, _&&_}
-use mathlib.Core.List.{List, [], _∷_, _++_, append-assoc}
-use Prim.Native.Nat.{ℕ, _+_, _≤_, _<_}
+use mathlib.Core.Path.{_≡_, refl}
+use mathlib.Core.Bool.{true}
+use mathlib.Core.List.{List, [], _∷_, _++_}
+use Prim.Native.Nat.{ℕ, _+_, _≤_}
 use native.Mathlib.Omega.{arith}
-use lib.Dec.{leb}
-use lib.ListN.{length, take, drop, length-append}
+use lib.ListN.{length, drop}
 use Rattle.std.specs.declared.option.Option.the-variants.{Some}
-use Rattle.std.specs.declared.result.Result.{Result}
-use Rattle.std.specs.declared.result.Result.the-variants.{Ok, Err}
+use Rattle.std.specs.declared.result.Result.the-variants.{Ok}
 use Rattle.std.proofs.shelf.Tests.{le-leb}
 use Rattle.codec.specs.Limits.{timeLength, dataLimit, frameHeaderLength, notificationLength, longestRecord}
 use Rattle.codec.specs.Times.{Stamp, timely, zeroStamp, twoOctets, stampOctets}
-use Rattle.codec.specs.Fields.{octetAt, twoOctetsAt, stampAt, zeroStampAt}
+use Rattle.codec.specs.Fields.{octetAt, twoOctetsAt}
 use Rattle.codec.specs.Records.{Record, frame, loss, status, endOfData, encode, WellFormed, qualityOctet, statusOctet, frameMark, notificationMark, frameHeader, notificationOctets, lossType, statusType, endOfDataType}
 use Rattle.codec.specs.RecordReading.{qualityOf, statusOf, recordAt}
 use Rattle.codec.specs.declared.record.Quality.{Quality}

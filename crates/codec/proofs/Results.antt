@@ -11,7 +11,7 @@ use Rattle.std.specs.declared.result.Result.{Result}
 use Rattle.std.specs.declared.result.Result.the-variants.{Ok, Err}
 use Rattle.std.proofs.shelf.Tests.{eqb-true}
 use Rattle.codec.specs.declared.fault.Fault.{Fault}
-use Rattle.codec.specs.Fields.{andThen, provided, orValueFault}
+use Rattle.codec.specs.Fields.{andThen, orValueFault}
 
 pub err-is-not-ok : {X : Type 0} {Y : Type 0} (e : Fault) (x : X) → _≡_ {A = Result X Fault} (Err e) (Ok x) → Y
 err-is-not-ok e x h = let z : _≡_ {A = ℕ} 0 1 = cc in absurd (omega arith)

@@ -1,24 +1,22 @@
 -- Writing a record to the front of a buffer.
 use mathlib.Core.Path.{_≡_, refl, sym, ap, _∙_}
-use mathlib.Core.Bool.{Bool, true, false, cond, _&&_}
+use mathlib.Core.Bool.{true}
 use mathlib.Core.List.{List, _++_}
 use Prim.Native.Nat.{ℕ, _+_, _≤_, _<_}
 use native.Mathlib.Omega.{arith}
 use native.Mathlib.Nat.{zero-add}
 use lib.Dec.{leb}
 use lib.ListN.{length, drop}
-use Rattle.std.specs.declared.result.Result.{Result}
 use Rattle.std.specs.declared.result.Result.the-variants.{Ok, Err}
 use Rattle.std.proofs.shelf.Tests.{le-leb, lt-leb, and-from}
 use Rattle.codec.specs.Limits.{dataLimit, notificationLength}
 use Rattle.codec.specs.Blocks.{placed}
 use Rattle.codec.specs.Times.{Stamp, stamp}
-use Rattle.codec.specs.Records.{Record, frame, loss, status, endOfData, encode, frameHeader, notified, writable, writeAnswer, bufferAfter}
+use Rattle.codec.specs.Records.{Record, frame, encode, frameHeader, notified, writable, writeAnswer}
 use Rattle.codec.specs.declared.record.Quality.{Quality}
 use Rattle.codec.specs.declared.record.Notification.{Notification}
 use Rattle.codec.specs.declared.record.Notification.the-variants.{LossOfFrameSynchronization, ProductionStatusChange, EndOfData}
-use Rattle.codec.specs.declared.record.WriteRefusal.{WriteRefusal}
-use Rattle.codec.specs.declared.record.WriteRefusal.the-variants.{DataLength, BufferTooShort}
+use Rattle.codec.specs.declared.record.WriteRefusal.the-variants.{BufferTooShort}
 use Rattle.codec.proofs.RecordsWritten.{loss-length, status-length, end-length}
 
 pub too-short : (room : ℕ) (r : Record) → writable r ≡ true → room < length (encode r) → Err BufferTooShort ≡ writeAnswer room r

@@ -1,5 +1,5 @@
 -- Reading an invocation: its fields in order, and nothing behind them.
-use mathlib.Core.Bool.{Bool, cond}
+use mathlib.Core.Bool.{cond}
 use mathlib.Core.List.{List}
 use Prim.Native.Nat.{ℕ, _+_}
 use lib.Dec.{leb, ltb, eqb}
@@ -10,7 +10,7 @@ use Rattle.std.specs.declared.result.Result.{Result}
 use Rattle.std.specs.declared.result.Result.the-variants.{Ok, Err}
 use Rattle.codec.specs.Limits.{timeLength}
 use Rattle.codec.specs.Blocks.{blockAt}
-use Rattle.codec.specs.Times.{Stamp, stampIf}
+use Rattle.codec.specs.Times.{Stamp}
 use Rattle.codec.specs.Fields.{fault, present, andThen, provided, orValueFault, octetAt, twoOctetsAt, stampAt}
 use Rattle.codec.specs.Invocations.{Request, start, stop, bind, unbind, abort, requested, identifierLengthAllowed, invocationMark, startOperation, stopOperation, bindOperation, unbindOperation, abortOperation}
 use Rattle.codec.specs.declared.fault.Fault.{Fault}

@@ -1,5 +1,5 @@
 -- Reading records: the one at a place, all those of a PDU, and a string of octets that is exactly one.
-use mathlib.Core.Bool.{Bool, cond}
+use mathlib.Core.Bool.{cond}
 use mathlib.Core.List.{List, [], _∷_}
 use Prim.Native.Nat.{ℕ, zero, suc, _+_}
 use lib.Dec.{leb, eqb}

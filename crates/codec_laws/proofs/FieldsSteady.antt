@@ -1,16 +1,13 @@
 -- The readers of fields are steady.
-use mathlib.Core.Path.{_≡_, refl, sym, ap, _∙_}
-use mathlib.Core.Bool.{Bool, true, false, cond}
-use mathlib.Core.List.{List}
-use Prim.Native.Nat.{ℕ, _+_, _*_, _≤_, _<_}
+use mathlib.Core.Path.{refl}
+use Prim.Native.Nat.{ℕ, _+_, _*_, _<_}
 use native.Mathlib.Omega.{arith}
 use lib.Dec.{leb, eqb}
-use lib.ListN.{length, take, drop, getD}
+use lib.ListN.{getD}
 use Rattle.std.specs.declared.option.Option.{Option}
 use Rattle.std.specs.declared.option.Option.the-variants.{Some, None}
 use Rattle.std.proofs.shelf.Lists.{getD-take}
 use Rattle.codec.specs.Limits.{timeLength, millisecondLimit, microsecondLimit}
-use Rattle.codec.specs.Times.{Stamp}
 use Rattle.codec.specs.Fields.{orValueFault, octetAt, twoOctetsAt, fourOctetsAt, twoOctetNumber, fourOctetNumber, stampAt, zeroStampAt}
 use Rattle.codec_laws.proofs.Steady.{Steady, steady-then, steady-cond, steady-value, steady-ok, steady-present, steady-from}
 

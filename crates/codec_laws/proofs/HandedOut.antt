@@ -1,12 +1,10 @@
 -- What the reader hands out are the records of the PDU.
-use mathlib.Core.Path.{_≡_, refl, sym, ap, _∙_}
+use mathlib.Core.Path.{_≡_, refl, ap, _∙_}
 use mathlib.Core.Bool.{Bool, true, false, cond}
-use mathlib.Core.List.{List, [], _∷_}
-use Prim.Native.Nat.{ℕ, zero, suc, _+_, _<_}
-use native.Mathlib.Omega.{arith}
+use mathlib.Core.List.{List, []}
+use Prim.Native.Nat.{ℕ, zero, suc, _+_}
 use lib.Dec.{leb}
 use lib.ListN.{length}
-use Rattle.std.specs.declared.option.Option.{Option}
 use Rattle.std.specs.declared.option.Option.the-variants.{Some, None}
 use Rattle.std.specs.declared.result.Result.{Result}
 use Rattle.std.specs.declared.result.Result.the-variants.{Ok, Err}
@@ -14,7 +12,7 @@ use Rattle.codec.specs.declared.fault.Fault.{Fault}
 use Rattle.codec.specs.Fields.{andThen}
 use Rattle.codec.specs.Records.{Record, encode}
 use Rattle.codec.specs.RecordReading.{recordAt, recordsFrom, recordsIn, prepended}
-use Rattle.codec.specs.Reader.{Part, partAt, nextPart, nextCursor, behindPart, collected, handedOut, partsOf, partsOr}
+use Rattle.codec.specs.Reader.{Part, behindPart, collected, handedOut, partsOr}
 use Rattle.codec_laws.specs.Laws.{Reader-hands-out-records}
 
 -- a record and what follows it, as parts

@@ -7,22 +7,19 @@ use Prim.Native.Nat.{ℕ, _+_, _≤_, _<_}
 use native.Mathlib.Omega.{arith}
 use lib.Dec.{leb, ltb, eqb}
 use lib.ListN.{length, take, drop}
-use Rattle.std.specs.declared.option.Option.{Option}
 use Rattle.std.specs.declared.option.Option.the-variants.{Some, None}
 use Rattle.std.specs.declared.result.Result.{Result}
 use Rattle.std.specs.declared.result.Result.the-variants.{Ok, Err}
 use Rattle.std.proofs.shelf.Tests.{le-ltb, ltb-true}
 use Rattle.std.proofs.shelf.Lists.{length-take-le}
-use Rattle.codec.specs.Limits.{timeLength}
-use Rattle.codec.specs.Times.{Stamp}
 use Rattle.codec.specs.Fields.{fault, andThen}
 use Rattle.codec.specs.Invocations.{Request, start, bind, unbind, abort, stop, invocationMark, identifierLengthAllowed, startOperation, stopOperation, bindOperation, unbindOperation, abortOperation}
-use Rattle.codec.specs.InvocationReading.{requestedQualityOf, reasonOf, requestedQualityAt, reasonAt, stampIfAt, stampIfLength, versionAt, identifierAt, endingAt, startAt, stopAt, bindAt, unbindAt, abortAt, operationIn, requestIn}
+use Rattle.codec.specs.InvocationReading.{requestedQualityOf, reasonOf, requestedQualityAt, reasonAt, stampIfAt, stampIfLength, versionAt, identifierAt, endingAt, startAt, bindAt, unbindAt, abortAt, operationIn, requestIn}
 use Rattle.codec_laws.specs.Laws.{Request-faults-have-their-place, FaultOfRequest}
 use Rattle.codec.specs.declared.fault.Fault.{Fault}
 use Rattle.codec.specs.declared.fault.FaultKind.{FaultKind}
 use Rattle.codec.specs.declared.fault.FaultKind.the-variants.{Short, Mark, Value, Extra}
-use Rattle.codec.proofs.Results.{same-ok, err-is-not-ok, cond-cases}
+use Rattle.codec.proofs.Results.{err-is-not-ok, cond-cases}
 use Rattle.codec_laws.proofs.Steady.{Allowed, Steady, ok-or-err, same-err, steady-then, steady-cond, steady-value, steady-ok, steady-present}
 use Rattle.codec.proofs.FieldsRead.{block-read}
 use Rattle.codec_laws.proofs.FieldsSteady.{octet-steady, two-octets-steady, value-steady, stamp-steady}

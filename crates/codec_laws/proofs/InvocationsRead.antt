@@ -1,25 +1,23 @@
 -- Octets that read as a request are its layout, and the request is well formed.
-use mathlib.Core.Path.{_≡_, refl, sym, ap, subst, _∙_}
-use mathlib.Core.Bool.{Bool, true, false, cond, _&&_}
+use mathlib.Core.Path.{_≡_, sym, ap, subst, _∙_}
+use mathlib.Core.Bool.{true}
 use mathlib.Core.List.{List, [], _∷_, _++_}
-use mathlib.Core.Logic.{_⊎_, inl, inr, ⊎-elim}
-use Prim.Native.Nat.{ℕ, _+_, _≤_, _<_}
+use mathlib.Core.Logic.{_⊎_, ⊎-elim}
+use Prim.Native.Nat.{ℕ, _+_, _≤_}
 use native.Mathlib.Omega.{arith}
 use lib.Dec.{leb, ltb, eqb}
 use lib.ListN.{length, take, drop}
 use Rattle.std.specs.declared.option.Option.{Option}
-use Rattle.std.specs.declared.option.Option.the-variants.{Some, None}
-use Rattle.std.specs.declared.result.Result.{Result}
-use Rattle.std.specs.declared.result.Result.the-variants.{Ok, Err}
+use Rattle.std.specs.declared.option.Option.the-variants.{Some}
+use Rattle.std.specs.declared.result.Result.the-variants.{Ok}
 use Rattle.std.proofs.shelf.Tests.{leb-true, ltb-false, eqb-true}
 use Rattle.std.proofs.shelf.Lists.{append-nil, drop-all}
-use Rattle.codec.specs.Limits.{timeLength, octetLimit, twoOctetLimit}
+use Rattle.codec.specs.Limits.{timeLength, twoOctetLimit}
 use Rattle.codec.specs.Octets.{Octets}
 use Rattle.codec.specs.Times.{Stamp, twoOctets, stampOctets}
-use Rattle.codec.specs.Fields.{octetAt, twoOctetsAt, stampAt, fault}
-use Rattle.codec.specs.Invocations.{Request, start, stop, bind, unbind, abort, layout, WellFormedRequest, TimelyIf, identifierLengthAllowed, invocationMark, invocationHeader, startOperation, stopOperation, bindOperation, unbindOperation, abortOperation, requestedQualityOctet, reasonOctet, stampIfOctets}
+use Rattle.codec.specs.Fields.{octetAt, twoOctetsAt, stampAt}
+use Rattle.codec.specs.Invocations.{Request, layout, WellFormedRequest, TimelyIf, identifierLengthAllowed, invocationMark, invocationHeader, startOperation, stopOperation, bindOperation, unbindOperation, abortOperation, requestedQualityOctet, reasonOctet, stampIfOctets}
 use Rattle.codec.specs.InvocationReading.{requestedQualityOf, reasonOf, requestedQualityAt, reasonAt, stampIfAt, stampIfLength, versionAt, identifierAt, endingAt, operationIn, startAt, stopAt, bindAt, unbindAt, abortAt, requestIn}
-use Rattle.codec.specs.declared.fault.Fault.{Fault}
 use Rattle.codec.specs.declared.invocation.RequestedQuality.{RequestedQuality}
 use Rattle.codec.specs.declared.invocation.RequestedQuality.the-variants.{GoodOnly, ErredOnly, All}
 use Rattle.codec.specs.declared.invocation.UnbindReason.{UnbindReason}

@@ -1,21 +1,19 @@
 -- The layout of a well-formed request reads as that request.
 use mathlib.Core.Path.{_≡_, refl, sym, ap, _∙_}
-use mathlib.Core.Bool.{true, _&&_}
 use mathlib.Core.List.{List, [], _∷_, _++_}
-use Prim.Native.Nat.{ℕ, _+_, _≤_, _<_}
+use Prim.Native.Nat.{ℕ, _+_, _≤_}
 use native.Mathlib.Omega.{arith}
-use lib.ListN.{length, take, drop}
+use lib.ListN.{length, drop}
 use Rattle.std.specs.declared.option.Option.{Option}
 use Rattle.std.specs.declared.option.Option.the-variants.{Some, None}
-use Rattle.std.specs.declared.result.Result.{Result}
-use Rattle.std.specs.declared.result.Result.the-variants.{Ok, Err}
+use Rattle.std.specs.declared.result.Result.the-variants.{Ok}
 use Rattle.std.proofs.shelf.Tests.{le-leb, le-ltb, leb-true, and-parts}
 use Rattle.std.proofs.shelf.Lists.{append-nil, length-drop}
-use Rattle.codec.specs.Limits.{timeLength, twoOctetLimit, shortestIdentifier, longestIdentifier}
+use Rattle.codec.specs.Limits.{twoOctetLimit, shortestIdentifier}
 use Rattle.codec.specs.Times.{Stamp, twoOctets, stampOctets}
-use Rattle.codec.specs.Fields.{octetAt, twoOctetsAt}
-use Rattle.codec.specs.Invocations.{Request, start, stop, bind, unbind, abort, layout, WellFormedRequest, TimelyIf, identifierLengthAllowed, invocationMark, invocationHeader, startOperation, stopOperation, bindOperation, unbindOperation, abortOperation, requestedQualityOctet, reasonOctet, stampIfOctets}
-use Rattle.codec.specs.InvocationReading.{requestedQualityOf, reasonOf, requestedQualityAt, reasonAt, stampIfAt, stampIfLength, identifierAt, endingAt, operationIn, startAt, stopAt, bindAt, unbindAt, abortAt, requestIn}
+use Rattle.codec.specs.Fields.{twoOctetsAt}
+use Rattle.codec.specs.Invocations.{Request, start, stop, bind, unbind, abort, layout, WellFormedRequest, TimelyIf, invocationMark, invocationHeader, startOperation, stopOperation, bindOperation, unbindOperation, abortOperation, requestedQualityOctet, reasonOctet, stampIfOctets}
+use Rattle.codec.specs.InvocationReading.{requestedQualityOf, reasonOf, stampIfAt, stampIfLength, endingAt, operationIn, requestIn}
 use Rattle.codec.specs.declared.invocation.RequestedQuality.{RequestedQuality}
 use Rattle.codec.specs.declared.invocation.RequestedQuality.the-variants.{GoodOnly, ErredOnly, All}
 use Rattle.codec.specs.declared.invocation.UnbindReason.{UnbindReason}

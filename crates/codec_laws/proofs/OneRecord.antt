@@ -1,14 +1,13 @@
 -- Octets that are exactly one record.
 use mathlib.Core.Path.{_≡_, refl, sym, ap, subst, _∙_}
-use mathlib.Core.Bool.{Bool, true, false, cond, _&&_}
-use mathlib.Core.List.{List, [], _∷_, _++_}
-use mathlib.Core.Logic.{_⊎_, inl, inr, ⊎-elim}
-use Prim.Native.Nat.{ℕ, _+_, _*_, _≤_, _<_}
+use mathlib.Core.Bool.{true}
+use mathlib.Core.List.{List, []}
+use mathlib.Core.Logic.{_⊎_, ⊎-elim}
+use Prim.Native.Nat.{ℕ, _+_, _≤_}
 use native.Mathlib.Omega.{arith}
 use lib.Dec.{leb, eqb}
-use lib.ListN.{length, take, drop, getD}
-use Rattle.std.specs.declared.option.Option.{Option}
-use Rattle.std.specs.declared.option.Option.the-variants.{Some, None}
+use lib.ListN.{length}
+use Rattle.std.specs.declared.option.Option.the-variants.{Some}
 use Rattle.std.specs.declared.result.Result.{Result}
 use Rattle.std.specs.declared.result.Result.the-variants.{Ok, Err}
 use Rattle.std.specs.shelf.Text.{sameBytes}
@@ -19,9 +18,9 @@ use Rattle.codec.specs.Limits.{timeLength, dayLimit, millisecondLimit, microsec
 use Rattle.codec.specs.Times.{Stamp, timely}
 use Rattle.codec.specs.Fields.{octetAt, twoOctetsAt, fourOctetsAt, twoOctetNumber, stampAt, zeroStampAt}
 use Rattle.codec.specs.Records.{Record, frame, loss, status, endOfData, encode, WellFormed, frameMark, notificationMark, lossType, statusType, endOfDataType}
-use Rattle.codec.specs.RecordReading.{Content, frameContent, lossContent, statusContent, endContent, qualityAt, statusAt, zeroAt, dataLengthAt, frameAt, lossAt, statusChangeAt, endOfDataAt, notificationAt, contentAt, recordOf, recordAt, whole, oneRecord}
+use Rattle.codec.specs.RecordReading.{Content, qualityAt, statusAt, zeroAt, dataLengthAt, frameAt, lossAt, statusChangeAt, endOfDataAt, notificationAt, contentAt, recordOf, recordAt, whole, oneRecord}
 use Rattle.codec.specs.declared.fault.Fault.{Fault}
-use Rattle.codec.proofs.Results.{same-ok, err-is-not-ok, andThen-ok, cond-ok, cond-cases}
+use Rattle.codec.proofs.Results.{same-ok, andThen-ok, cond-ok, cond-cases}
 use Rattle.codec.proofs.FieldsRead.{block-read}
 use Rattle.codec.proofs.RecordsWritten.{record-written}
 use Rattle.codec.proofs.RecordsRead.{length-read}

@@ -1,19 +1,17 @@
 -- The records of a PDU: reading what was joined, and joining what was read.
 use mathlib.Core.Path.{_≡_, refl, sym, ap, subst, _∙_}
-use mathlib.Core.Bool.{Bool, true, false, cond}
 use mathlib.Core.List.{List, [], _∷_, _++_, append-assoc}
-use mathlib.Core.Logic.{_⊎_, inl, inr, ⊎-elim}
-use Prim.Native.Nat.{ℕ, zero, suc, _+_, _-_, _≤_, _<_}
+use mathlib.Core.Logic.{_⊎_, ⊎-elim}
+use Prim.Native.Nat.{ℕ, zero, suc, _+_, _≤_}
 use native.Mathlib.Omega.{arith}
 use lib.Dec.{leb}
-use lib.ListN.{length, take, drop, length-append}
+use lib.ListN.{length, drop, length-append}
 use Rattle.std.specs.declared.result.Result.{Result}
 use Rattle.std.specs.declared.result.Result.the-variants.{Ok, Err}
 use Rattle.std.specs.shelf.Lists.{joined, All}
 use Rattle.std.proofs.shelf.Tests.{le-leb, lt-leb, leb-true}
 use Rattle.std.proofs.shelf.Lists.{drop-all, length-drop}
 use Rattle.codec.specs.Octets.{Octets}
-use Rattle.codec.specs.Fields.{andThen}
 use Rattle.codec.specs.Records.{Record, encode, WellFormed}
 use Rattle.codec.specs.RecordReading.{recordAt, recordsFrom, recordsIn, prepended}
 use Rattle.codec.specs.declared.fault.Fault.{Fault}

@@ -1,13 +1,13 @@
 -- The reader of a record is steady.
 use mathlib.Core.Path.{_≡_, refl, sym, ap, _∙_}
-use mathlib.Core.List.{List, _++_}
+use mathlib.Core.List.{List}
 use Prim.Native.Nat.{ℕ, _+_, _≤_, _<_}
 use native.Mathlib.Omega.{arith}
 use lib.Dec.{eqb}
 use lib.ListN.{length, take, drop}
 use Rattle.std.proofs.shelf.Lists.{take-append-drop, drop-append-le, take-append-le, length-drop, length-take-le}
 use Rattle.codec.specs.Limits.{timeLength, frameHeaderLength}
-use Rattle.codec.specs.Records.{Record, encode, frame, frameMark, notificationMark, lossType, statusType, endOfDataType, dataLengthAllowed}
+use Rattle.codec.specs.Records.{encode, frame, frameMark, notificationMark, lossType, statusType, endOfDataType, dataLengthAllowed}
 use Rattle.codec.specs.RecordReading.{Content, frameContent, lossContent, statusContent, endContent, size, qualityOf, statusOf, qualityAt, statusAt, zeroAt, dataLengthAt, frameAt, lossAt, statusChangeAt, endOfDataAt, notificationAt, contentAt, recordOf, recordAt}
 use Rattle.codec_laws.proofs.Steady.{Steady, steady-then, steady-cond, steady-value, steady-mark, steady-ok, steady-present, steady-from}
 use Rattle.codec_laws.proofs.FieldsSteady.{octet-steady, two-octets-steady, value-steady, stamp-steady, zero-stamp-steady}

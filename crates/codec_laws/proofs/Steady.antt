@@ -3,19 +3,15 @@ use mathlib.Core.Path.{_≡_, refl, sym, ap, subst, _∙_}
 use mathlib.Core.Bool.{Bool, true, false, cond}
 use mathlib.Core.List.{List}
 use mathlib.Core.Logic.{_⊎_, inl, inr, ⊎-elim}
-use Prim.Native.Nat.{ℕ, _+_, _*_, _≤_, _<_}
+use Prim.Native.Nat.{ℕ, _+_, _≤_, _<_}
 use native.Mathlib.Omega.{arith}
-use lib.Dec.{leb, eqb}
-use lib.ListN.{length, take, drop, getD}
-use Rattle.std.specs.declared.option.Option.{Option}
-use Rattle.std.specs.declared.option.Option.the-variants.{Some, None}
+use lib.Dec.{leb}
+use lib.ListN.{length, take}
 use Rattle.std.specs.declared.result.Result.{Result}
 use Rattle.std.specs.declared.result.Result.the-variants.{Ok, Err}
 use Rattle.std.proofs.shelf.Tests.{le-leb, leb-true, lt-leb, cases-lt}
-use Rattle.std.proofs.shelf.Lists.{length-take-le, getD-take}
-use Rattle.codec.specs.Limits.{timeLength, millisecondLimit, microsecondLimit}
-use Rattle.codec.specs.Times.{Stamp}
-use Rattle.codec.specs.Fields.{fault, present, andThen, provided, orValueFault, octetAt, twoOctetsAt, fourOctetsAt, twoOctetNumber, fourOctetNumber, stampAt, zeroStampAt}
+use Rattle.std.proofs.shelf.Lists.{length-take-le}
+use Rattle.codec.specs.Fields.{fault, present, andThen}
 use Rattle.codec.specs.declared.fault.Fault.{Fault}
 use Rattle.codec.specs.declared.fault.FaultKind.{FaultKind}
 use Rattle.codec.specs.declared.fault.FaultKind.the-variants.{Short, Mark, Value, Extra}

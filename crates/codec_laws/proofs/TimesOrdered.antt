@@ -1,10 +1,8 @@
 -- The order of times.
 use mathlib.Core.Path.{_≡_, refl, sym, ap, _∙_}
-use mathlib.Core.Bool.{Bool, true, false, cond}
 use mathlib.Core.Logic.{_⊎_, inl, inr, ⊎-elim}
-use Prim.Native.Nat.{ℕ, _+_, _≤_, _<_}
+use Prim.Native.Nat.{ℕ, _<_}
 use native.Mathlib.Omega.{arith}
-use lib.Dec.{ltb}
 use Rattle.std.proofs.shelf.Tests.{lt-ltb, le-ltb, cases-order}
 use Rattle.codec.specs.Times.{Stamp, ordered, decided, compared, stampOctets}
 use Rattle.codec_laws.specs.Laws.{opposite, Times-are-ordered}

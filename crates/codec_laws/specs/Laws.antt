@@ -1,15 +1,13 @@
 -- The laws of times, records and invocations, in words of the subject.
 use mathlib.Core.Path.{_≡_}
-use mathlib.Core.Bool.{true}
 use mathlib.Core.List.{List, [], _∷_}
 use mathlib.Core.Logic.{_⊎_}
 use Prim.Native.Nat.{ℕ, _≤_, _<_}
 use lib.ListN.{length, take}
-use Rattle.std.specs.declared.result.Result.{Result}
 use Rattle.std.specs.declared.result.Result.the-variants.{Ok, Err}
 use Rattle.std.specs.shelf.Lists.{joined, All}
 use Rattle.codec.specs.Octets.{Octets}
-use Rattle.codec.specs.Times.{Stamp, timely, compared, checkedStamp, stampOctets}
+use Rattle.codec.specs.Times.{Stamp, compared, checkedStamp, stampOctets}
 use Rattle.codec.specs.Fields.{fault}
 use Rattle.codec.specs.Records.{Record, frame, endOfData, encode, WellFormed, writeAnswer}
 use Rattle.codec.specs.RecordReading.{recordsIn}

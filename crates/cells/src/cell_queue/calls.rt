@@ -1,6 +1,6 @@
 ghost use mathlib.Core.List.{[]};
 ghost use mathlib.Core.Path.{_≡_};
-ghost use Prim.Native.Nat.{ℕ, max};
+ghost use Prim.Native.Nat.{max};
 ghost use Rattle.std.specs.Vec.{made};
 ghost use Rattle.cells.specs.Cells.{held-in, limit-in};
 use super::CellQueue;

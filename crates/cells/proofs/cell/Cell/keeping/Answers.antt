@@ -1,4 +1,3 @@
-use mathlib.Core.List.{_∷_}
 use Rattle.cells.proofs.Boards.{front-kept, front-size}
 use Rattle.cells.proofs.cell.Cell.keeping.Needs as need
 
