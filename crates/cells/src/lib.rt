@@ -1,2 +1,4 @@
+#![tactic(auto)]
+
 pub mod cell;
 pub mod cell_queue;

@@ -1,4 +1,6 @@
 // The octets between receiver, provider and user: times, records and invocations, written and read.
+#![tactic(auto)]
+
 pub(crate) mod blocks;
 pub mod fault;
 pub(crate) mod fields;

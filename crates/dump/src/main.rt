@@ -1,4 +1,6 @@
 // Takes octets apart: prints what a PDU or an invocation says, field by field, or where it is faulty.
+#![tactic(auto)]
+
 use anyhow::anyhow;
 use std::io;
 use std::io::{Read, Write};

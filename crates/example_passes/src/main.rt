@@ -1,5 +1,7 @@
 // Plays acceptance scripts and compares what is answered with what is expected. The arguments are names: NAME.script is
 // played, and NAME.answers has its answers and, behind them, what is said of a faulty line.
+#![tactic(auto)]
+
 use acceptance::play::{Played, play};
 use anyhow::anyhow;
 use replay::watcher::Unwatched;

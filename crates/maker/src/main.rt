@@ -1,4 +1,6 @@
 // Fills a pile of queues, one of them a maker's own, and carries what it holds into another queue.
+#![tactic(auto)]
+
 use carrying::carry_all;
 use cells::cell_queue::CellQueue;
 use layers::quota::Quota;

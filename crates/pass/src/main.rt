@@ -1,4 +1,6 @@
 // Plays a receiver's acceptance script on a provider, and answers each call.
+#![tactic(auto)]
+
 use acceptance::play::{Played, play};
 use anyhow::anyhow;
 use progress::Progress;

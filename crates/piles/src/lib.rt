@@ -1,3 +1,5 @@
+#![tactic(auto)]
+
 pub mod memory;
 pub mod nesting;
 pub mod player;

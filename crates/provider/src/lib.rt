@@ -1,5 +1,7 @@
 //! The provider end of one Return All Frames service instance in complete online delivery, over any two queues.
 
+#![tactic(auto)]
+
 pub mod answer;
 pub mod phase;
 pub mod provider;

@@ -9,6 +9,10 @@ impl<'q, Q: Meaning> Meaning for &'q mut Q {
     ghost largest = { λ s. Q.Meaning.largest s.now };
 
     ghost room = { λ s. Q.Meaning.room s.now };
+
+    ghost vacant = { λ s. Q.Meaning.vacant s.now };
+
+    ghost bounded = { λ s. Q.Meaning.bounded s.now };
 }
 
 impl<'q, Q: Queue> Queue for &'q mut Q {

@@ -1,3 +1,5 @@
+#![tactic(auto)]
+
 pub mod carry;
 pub mod interface;
 pub mod lent;

@@ -1,4 +1,6 @@
 // Plays a script of calls on one queue, and answers each.
+#![tactic(auto)]
+
 use anyhow::anyhow;
 use play::{Played, play};
 use std::io;

@@ -1,3 +1,5 @@
+#![tactic(auto)]
+
 mod block;
 pub mod memory;
 pub mod ring;

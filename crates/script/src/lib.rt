@@ -1,3 +1,5 @@
+#![tactic(auto)]
+
 pub mod arguments;
 pub mod calls;
 pub mod complaint;

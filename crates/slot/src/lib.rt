@@ -1,2 +1,4 @@
+#![tactic(auto)]
+
 pub mod note;
 pub mod slotted;

@@ -1,3 +1,5 @@
+#![tactic(auto)]
+
 use std::{env, io};
 
 mod load;

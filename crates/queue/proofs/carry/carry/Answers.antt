@@ -5,10 +5,10 @@ use Rattle.queue.proofs.carry.carry.Goals as goal
 pub returns : goal.returns
 returns g c =
     let held = g.F.Meaning.held c.args.from.now in
-    let n = c.in-ok-n.n in
+    let n = c.in_ok-n.n in
     let to = c.args.to.now in
     let room = g.T.Meaning.room to in
-    let over = gone_over held (g.F.Meaning.held c.drop.new.self) n c.args.buffer.now c.read-from.new.out (g.T.Meaning.largest to) room (g.T.Meaning.held to) (g.T.Meaning.held c.add.new.self)
+    let over = gone_over held (g.F.Meaning.held c.drop.new.self) n c.args.buffer.now c.read_from.new.out (g.T.Meaning.largest to) room (g.T.Meaning.held to) (g.T.Meaning.held c.add.new.self)
     (search rules) (omega arith) (search rules) (search rules) (search rules) (search rules) in
     record {
       answer = over.4;
