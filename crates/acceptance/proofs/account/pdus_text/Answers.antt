@@ -6,5 +6,5 @@ pub returns : goal.returns
 returns c =
     let a = c.args.account.now in
     IfOk-weaker c.format.result _ _
-    (λ s h. h ∙ ap (λ n. codes "PDUs sent " ++ (decimal a.pdus_sent ++ (codes ", collected " ++ (decimal a.pdus_collected ++ (codes ", waiting " ++ (decimal n ++ codes "\n")))))) c.pdus-waiting-waiting.ensures)
+    (λ s h. h ∙ ap (λ n. codes "PDUs sent " ++ (decimal a.pdus_sent ++ (codes ", collected " ++ (decimal a.pdus_collected ++ (codes ", waiting " ++ (decimal n ++ codes "\n")))))) c.pdus_waiting-waiting.ensures)
     c.format.ensures.ok

@@ -6,7 +6,7 @@ use Rattle.acceptance.proofs.account.say_account.Goals as goal
 pub returns : goal.returns
 returns c =
     let out = vec_items c.args.out.now in
-    let accepted = c.in-ok-say.ensures ∙ ap (λ t. out ++ t) (c.as-str.ensures.value ∙ c.in-ok-accepted.ensures) in
-    let others = c.in-ok-say-2.ensures ∙ ap₂ (λ x y. x ++ y) accepted (c.as-str-2.ensures.value ∙ c.in-ok-others.ensures) in
-    let pdus = c.as-str-3.ensures.value ∙ c.in-ok-pdus.ensures in
+    let accepted = c.in_ok-say.ensures ∙ ap (λ t. out ++ t) (c.as_str.ensures.value ∙ c.in_ok-accepted.ensures) in
+    let others = c.in_ok-say-2.ensures ∙ ap₂ (λ x y. x ++ y) accepted (c.as_str-2.ensures.value ∙ c.in_ok-others.ensures) in
+    let pdus = c.as_str-3.ensures.value ∙ c.in_ok-pdus.ensures in
     IfOk-weaker c.say-3.result _ _ (λ u h. h ∙ ap₂ (λ x y. x ++ y) others pdus ∙ three_joined out _ _ _) c.say-3.ensures

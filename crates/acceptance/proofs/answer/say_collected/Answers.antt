@@ -8,8 +8,8 @@ pub returns : goal.returns
 returns c =
     let out = vec_items c.args.out.now in
     let octets = c.args.octets.now in
-    let head = c.in-ok-say.ensures ∙ ap (λ t. out ++ t) (c.as-str.ensures.value ∙ c.in-ok-text.ensures.ok) in
-    let body = c.in-ok-push-octets.ensures ∙ ap (λ l. l ++ hexadecimal_text octets) head in
+    let head = c.in_ok-say.ensures ∙ ap (λ t. out ++ t) (c.as_str.ensures.value ∙ c.in_ok-text.ensures.ok) in
+    let body = c.in_ok-push_octets.ensures ∙ ap (λ l. l ++ hexadecimal_text octets) head in
     IfOk-weaker c.say-2.result _ _
     (λ u h. h ∙ ap (λ l. l ++ codes "\n") body ∙ pieces_joined out (codes "collected ") (decimal (length octets)) (codes " ") (hexadecimal_text octets) (codes "\n"))
     c.say-2.ensures

@@ -9,8 +9,8 @@ pub returns : goal.returns
 returns c =
     let out = vec_items c.args.out.now in
     let name = named c.args.identifier.now in
-    let head = c.in-ok-say.ensures ∙ ap (λ t. out ++ t) (c.as-str.ensures.value ∙ c.in-ok-text.ensures.ok) in
-    let body = c.in-ok-push-octets.ensures ∙ (λ i. head i ++ hexadecimal_text (c.octets.ensures i)) in
+    let head = c.in_ok-say.ensures ∙ ap (λ t. out ++ t) (c.as_str.ensures.value ∙ c.in_ok-text.ensures.ok) in
+    let body = c.in_ok-push_octets.ensures ∙ (λ i. head i ++ hexadecimal_text (c.octets.ensures i)) in
     IfOk-weaker c.say-2.result _ _
     (λ u h. h ∙ ap (λ l. l ++ codes "\n") body
     ∙ pieces_joined out (codes "BIND id ") (decimal c.args.id) (codes " version ") (decimal c.args.version) (codes " identifier ") (hexadecimal_text name) (codes "\n"))

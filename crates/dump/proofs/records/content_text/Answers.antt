@@ -4,10 +4,10 @@ use Rattle.codec.specs.RecordReading.{said}
 use Rattle.dump.specs.Lines.{content_text}
 use Rattle.dump.proofs.records.content_text.Goals as goal
 
-pub returns-in-ok-time : goal.returns-in-ok-time
-returns-in-ok-time c =
+pub returns-in_ok-time : goal.returns-in_ok-time
+returns-in_ok-time c =
     IfOk-weaker c.format.result _ _
     (λ s h. h
-    ∙ (λ i. codes "frame quality " ++ (decimal (c.octet-quality.ensures i) ++ (codes " time " ++ (c.in-ok-time.ensures i ++ (codes " data " ++ decimal c.in-Frame.data-length)))))
+    ∙ (λ i. codes "frame quality " ++ (decimal (c.octet-quality.ensures i) ++ (codes " time " ++ (c.in_ok-time.ensures i ++ (codes " data " ++ decimal c.in-Frame.data_length)))))
     ∙ ap (λ k. content_text (said k)) (sym c.in-Frame.is))
     c.format.ensures.ok

@@ -5,16 +5,16 @@ use Rattle.codec.specs.RecordReading.{content_of}
 use Rattle.dump.specs.Lines.{content_text}
 use Rattle.dump.proofs.records.notification_text.Goals as goal
 
-pub returns-in-ok-time : goal.returns-in-ok-time
-returns-in-ok-time c =
+pub returns-in_ok-time : goal.returns-in_ok-time
+returns-in_ok-time c =
     IfOk-weaker c.format.result _ _
-    (λ s h. h ∙ ap (λ t. codes "loss of frame synchronization time " ++ t) c.in-ok-time.ensures
+    (λ s h. h ∙ ap (λ t. codes "loss of frame synchronization time " ++ t) c.in_ok-time.ensures
     ∙ ap (λ n. content_text (content_of (notified n))) (sym c.in-LossOfFrameSynchronization.is))
     c.format.ensures.ok
 
 pub returns-in-ProductionStatusChange : goal.returns-in-ProductionStatusChange
 returns-in-ProductionStatusChange c =
     IfOk-weaker c.format-in-ProductionStatusChange.result _ _
-    (λ s h. h ∙ ap (λ t. codes "production status " ++ t) c.status-text-status.ensures
+    (λ s h. h ∙ ap (λ t. codes "production status " ++ t) c.status_text-status.ensures
     ∙ ap (λ n. content_text (content_of (notified n))) (sym c.in-ProductionStatusChange.is))
     c.format-in-ProductionStatusChange.ensures.ok

@@ -9,6 +9,6 @@ returns c =
     let fault = c.args.fault in
     let letter = ap encode c.letter-letter.ensures ∙ letter_text fault.kind in
     let text =
-    c.as-str.ensures.value ∙ c.in-ok-text.ensures.ok
+    c.as_str.ensures.value ∙ c.in_ok-text.ensures.ok
     ∙ ap (λ l. codes "fault " ++ (l ++ (codes " " ++ (decimal fault.place ++ codes "\n")))) letter in
     IfOk-weaker c.say.result _ _ (λ u h. h ∙ ap (λ t. vec_items c.args.out.now ++ t) text) c.say.ensures

@@ -26,13 +26,13 @@ loop-next-preserved c =
     let over : c.loop-next.reader.pdu.now ≡ xs = c.loop-next.invariant.0 in
     let told : next_part xs at ≡ Ok (Some (part_of c.in-Some.part)) = sym (c.in-Ok.ensures.answer ∙ ap (λ z. next_part z at) over) ∙ ap (λ n. part_if_or (Ok n)) c.in-Some.is in
     let cursor = c.in-Ok.ensures.cursor ∙ ap (λ z. next_cursor z at) over in
-    let step = lines_part xs at (length xs) (part_of c.in-Some.part) (octets_typed xs c.type-inv.pdu) (omega arith) told in
+    let step = lines_part xs at (length xs) (part_of c.in-Some.part) (octets_typed xs c.type_inv.pdu) (omega arith) told in
     let line = part_line c.in-Some.part.place (content_or (record_at c.in-Some.part.octets.now 0)) in
     let rest = lines_from (length xs) xs in (
       c.in-Ok.ensures.over ∙ over,
       c.loop-next.invariant.1 ∙ ap (λ l. vec_items c.loop-next.out ++ l) step
           ∙ sym (append_assoc (vec_items c.loop-next.out) line (rest (next_cursor xs at)))
-          ∙ (λ i. sym c.in-ok-say-record.ensures i ++ rest (sym cursor i)),
+          ∙ (λ i. sym c.in_ok-say_record.ensures i ++ rest (sym cursor i)),
     )
 
 pub loop-next-init : goal.loop-next-init
@@ -56,4 +56,4 @@ returns-in-Err c =
     let over : c.loop-next.reader.pdu.now ≡ xs = c.loop-next.invariant.0 in
     let told : next_part xs at ≡ Err c.in-Err.fault = sym (c.in-Err.ensures.answer ∙ ap (λ z. next_part z at) over) in
     let lines = c.loop-next.invariant.1 ∙ ap (λ l. vec_items c.loop-next.out ++ l) (lines_fault xs at (length xs) c.in-Err.fault (omega arith) told) in
-    IfOk-weaker c.say-fault.result _ _ (λ u h. h ∙ sym lines) c.say-fault.ensures
+    IfOk-weaker c.say_fault.result _ _ (λ u h. h ∙ sym lines) c.say_fault.ensures

@@ -9,14 +9,14 @@ returns-in-Err g c = none_collected _ _ c.args.capacity (collection_number c.in-
 
 pub returns-in-Ok-collect : goal.returns-in-Ok-collect
 returns-in-Ok-collect g c =
-    let long : length c.as-mut-slice.result.now ≡ min c.in-Ok.length c.args.capacity = search rules in
-    let same : length c.collect.new.out ≡ c.in-ok-octets.octets.len = search rules in
+    let long : length c.as_mut_slice.result.now ≡ min c.in-Ok.length c.args.capacity = search rules in
+    let same : length c.collect.new.out ≡ c.in_ok-octets.octets.len = search rules in
     let truncated : vec_items c.truncate.new.self ≡ take c.in-Ok-collect.count c.collect.new.out = c.truncate.ensures.items ∙ ap (take c.in-Ok-collect.count) (take_at _ _ _ same) in
-    collected_whole _ _ _ c.in-Ok.ensures.kept c.args.capacity c.in-Ok.length c.as-mut-slice.result.now c.in-Ok.ensures.answer long
+    collected_whole _ _ _ c.in-Ok.ensures.kept c.args.capacity c.in-Ok.length c.as_mut_slice.result.now c.in-Ok.ensures.answer long
     c.in-Ok-collect.count c.collect.new.out (vec_items c.truncate.new.self) c.in-Ok-collect.ensures.call c.in-Ok-collect.ensures.buffer truncated
 
 pub returns-in-Err-collect : goal.returns-in-Err-collect
 returns-in-Err-collect g c =
-    let long : length c.as-mut-slice.result.now ≡ min c.in-Ok.length c.args.capacity = search rules in
-    too_long _ _ _ c.in-Ok.ensures.kept c.args.capacity c.in-Ok.length c.as-mut-slice.result.now c.in-Ok.ensures.answer long
+    let long : length c.as_mut_slice.result.now ≡ min c.in-Ok.length c.args.capacity = search rules in
+    too_long _ _ _ c.in-Ok.ensures.kept c.args.capacity c.in-Ok.length c.as_mut_slice.result.now c.in-Ok.ensures.answer long
     (collection_number c.in-Err-collect.refusal) c.in-Err-collect.ensures.call

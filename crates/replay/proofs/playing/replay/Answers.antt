@@ -8,9 +8,9 @@ loop-call-init g c = begins _ c.args.calls.now _ _ c.open-provider.ensures.begin
 
 pub loop-call-preserved : goal.loop-call-preserved
 loop-call-preserved g c =
-    let few : c.loop-call.call-index + 1 < 2 ^ 64 = omega (arith, c.len.type-inv, c.in-ok-push.ensures.len, c.loop-call.invariant.answered, c.loop-call.answers.ok.0) in
-    one_more_call _ _ _ c.args.calls.now c.loop-call.call-index (vec_items c.loop-call.answers) (vec_items c.push.new.self) (account_of c.loop-call.account) (account_of c.enter.new.self) _ c.in-ok-answer.answer
-    c.loop-call.invariant c.loop-call-test.true few c.in-ok-answer.ensures c.enter.ensures c.in-ok-push.ensures.items
+    let few : c.loop-call.call-index + 1 < 2 ^ 64 = omega (arith, c.len.type_inv, c.in_ok-push.ensures.len, c.loop-call.invariant.answered, c.loop-call.answers.ok.0) in
+    one_more_call _ _ _ c.args.calls.now c.loop-call.call-index (vec_items c.loop-call.answers) (vec_items c.push.new.self) (account_of c.loop-call.account) (account_of c.enter.new.self) _ c.in_ok-answer.answer
+    c.loop-call.invariant c.loop-call-test.true few c.in_ok-answer.ensures c.enter.ensures c.in_ok-push.ensures.items
 
 pub returns : goal.returns
 returns g c =

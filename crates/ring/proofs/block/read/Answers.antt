@@ -7,4 +7,4 @@ returns g c =
     let xs = c.args.slots.now in
     let n = length c.args.out.now in
     let e : (at + n) - at ≡ n = omega arith in
-    record { buffer = c.copy-from-slice.ensures.after ∙ ap (λ q. take q (drop at xs)) e; kept = refl {a = xs} }
+    record { buffer = c.copy_from_slice.ensures.after ∙ ap (λ q. take q (drop at xs)) e; kept = refl {a = xs} }

@@ -9,4 +9,4 @@ returns g c =
     let xs = c.args.slots.now in
     let run = c.args.run.now in
     let e : (at + length run) - at ≡ length run = omega arith in
-    ap (λ k. put_mid at k xs c.copy-from-slice.new.self) e ∙ ap (put_mid at (length run) xs) c.copy-from-slice.ensures.after ∙ ap (λ q. take at xs ++ (run ++ q)) (drop-drop (length run) at xs)
+    ap (λ k. put_mid at k xs c.copy_from_slice.new.self) e ∙ ap (put_mid at (length run) xs) c.copy_from_slice.ensures.after ∙ ap (λ q. take at xs ++ (run ++ q)) (drop-drop (length run) at xs)

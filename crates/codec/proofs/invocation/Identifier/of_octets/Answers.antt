@@ -2,10 +2,10 @@ use Rattle.std.proofs.Common.{length, take, refl, ap, ◌∙◌, rules}
 use Rattle.std.proofs.lemmas.List.{take_at}
 use Rattle.codec.proofs.invocation.Identifier.of_octets.Goals as goal
 
-pub invariant-of-result : goal.invariant-of-result
-invariant-of-result c = ((search rules, c.requires.low, c.requires.high), tt)
+pub invariant_of-result : goal.invariant_of-result
+invariant_of-result c = ((search rules, c.requires.low, c.requires.high), tt)
 
 pub returns : goal.returns
 returns c =
     let xs = c.args.octets.now in
-    ap (take (length xs)) c.place-block.ensures ∙ take_at xs _ (length xs) refl
+    ap (take (length xs)) c.place_block.ensures ∙ take_at xs _ (length xs) refl

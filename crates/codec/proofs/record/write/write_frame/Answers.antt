@@ -5,8 +5,8 @@ use Rattle.codec.proofs.RecordsWritten.{frame_length}
 use Rattle.codec.proofs.Writing.{too_short, fits, frame_writable, frame_octets, placed_front}
 use Rattle.codec.proofs.record.write.write_frame.Goals as goal
 
-pub returns-then-record-length-out : goal.returns-then-record-length-out
-returns-then-record-length-out c =
+pub returns-then-record_length-out : goal.returns-then-record_length-out
+returns-then-record_length-out c =
     let q = c.args.quality in
     let t = stamp c.args.time in
     let d = c.args.«data».now in
@@ -22,8 +22,8 @@ returns c =
     let t = stamp c.args.time in
     let d = c.args.«data».now in
     let allowed = frame_writable q t d (omega arith) (omega arith) in
-    let octets = ap (λ h. h ++ d) c.frame-header-header.ensures ∙ sym (frame_octets q t d) in
+    let octets = ap (λ h. h ++ d) c.frame_header-header.ensures ∙ sym (frame_octets q t d) in
     record {
-      answer = fits (length c.args.out.now) _ (frame q t d) allowed (sym (frame_length q t d)) c.if-record-length-out.false;
-      buffer = c.place-two-blocks.ensures ∙ placed_front c.args.out.now _ _ _ octets (sym (frame_length q t d));
+      answer = fits (length c.args.out.now) _ (frame q t d) allowed (sym (frame_length q t d)) c.if-record_length-out.false;
+      buffer = c.place_two_blocks.ensures ∙ placed_front c.args.out.now _ _ _ octets (sym (frame_length q t d));
     }

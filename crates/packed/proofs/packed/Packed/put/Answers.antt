@@ -11,18 +11,18 @@ overflow-add-self c =
     let used = used_is me in
     omega (arith, me.counted)
 
-pub invariant-of-self : goal.invariant-of-self
-invariant-of-self c =
+pub invariant_of-self : goal.invariant_of-self
+invariant_of-self c =
     let me = c.args.self.now in
-    let first = c.add-run.new.self in
-    let p = put_behind me (elements first) (elements c.add-run-2.new.self) c.args.octets.now (size first)
-    (c.add-run.ensures.list ∙ ap (added (elements me.ring) (octets_in me)) c.length-octets-head.ensures) c.add-run.ensures.same c.add-run-2.ensures.list c.requires.0 in
+    let first = c.add_run.new.self in
+    let p = put_behind me (elements first) (elements c.add_run-2.new.self) c.args.octets.now (size first)
+    (c.add_run.ensures.list ∙ ap (added (elements me.ring) (octets_in me)) c.length_octets-head.ensures) c.add_run.ensures.same c.add_run-2.ensures.list c.requires.0 in
     (p.1, (p.2, tt))
 
 pub returns : goal.returns
 returns c =
     let me = c.args.self.now in
-    let first = c.add-run.new.self in
-    let p = put_behind me (elements first) (elements c.add-run-2.new.self) c.args.octets.now (size first)
-    (c.add-run.ensures.list ∙ ap (added (elements me.ring) (octets_in me)) c.length-octets-head.ensures) c.add-run.ensures.same c.add-run-2.ensures.list c.requires.0 in
-    record { list = p.0; same = c.add-run-2.ensures.same ∙ c.add-run.ensures.same }
+    let first = c.add_run.new.self in
+    let p = put_behind me (elements first) (elements c.add_run-2.new.self) c.args.octets.now (size first)
+    (c.add_run.ensures.list ∙ ap (added (elements me.ring) (octets_in me)) c.length_octets-head.ensures) c.add_run.ensures.same c.add_run-2.ensures.list c.requires.0 in
+    record { list = p.0; same = c.add_run-2.ensures.same ∙ c.add_run.ensures.same }

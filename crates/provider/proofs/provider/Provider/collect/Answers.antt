@@ -9,16 +9,16 @@ use Rattle.provider.proofs.Collecting.{nothing_waits, too_short, collects}
 use Rattle.provider.proofs.Queues.{kept_queue, dropped_queue}
 use Rattle.provider.proofs.provider.Provider.collect.Goals as goal
 
-pub returns-in-default : goal.returns-in-default
-returns-in-default g c =
+pub returns-in_default : goal.returns-in_default
+returns-in_default g c =
     let p = c.args.self.now in
     let q = g.T.Meaning in
     let s = session_of p.session in
     let size = length c.args.out.now in
-    let comes = nothing_waits s size (q.held p.transport) (number c.in-default.field-0) c.in-default.ensures.answer in
+    let comes = nothing_waits s size (q.held p.transport) (number c.in_default.field-0) c.in_default.ensures.answer in
     record {
       call = called (state_of g.F.Meaning q p) _ (collect size) (refused 30) _ (refuses s 30) comes (ap (λ o. o.copied) comes)
-          (record { answer = refl; settings = refl; opening = refl; session = refl; frames = refl; transport = kept_queue q p.transport c.first-length.new.self c.first-length.ensures.kept });
+          (record { answer = refl; settings = refl; opening = refl; session = refl; frames = refl; transport = kept_queue q p.transport c.first_length.new.self c.first_length.ensures.kept });
       buffer = sym (ap (λ o. copied_into o.copied c.args.out.now) comes);
     }
 
@@ -31,7 +31,7 @@ returns-then-length-out g c =
     let comes = too_short s size (q.held p.transport) c.in-Ok.length c.in-Ok.ensures.answer (omega arith) in
     record {
       call = called (state_of g.F.Meaning q p) _ (collect size) (refused 34) _ (refuses s 34) comes (ap (λ o. o.copied) comes)
-          (record { answer = refl; settings = refl; opening = refl; session = refl; frames = refl; transport = kept_queue q p.transport c.first-length.new.self c.first-length.ensures.kept });
+          (record { answer = refl; settings = refl; opening = refl; session = refl; frames = refl; transport = kept_queue q p.transport c.first_length.new.self c.first_length.ensures.kept });
       buffer = sym (ap (λ o. copied_into o.copied c.args.out.now) comes);
     }
 
@@ -41,9 +41,9 @@ returns g c =
     let q = g.T.Meaning in
     let s = session_of p.session in
     let out = c.args.out.now in
-    let first = c.first-length.ensures.kept in
-    let read = c.read-from.ensures.kept in
-    let did = collects s (length out) (q.held p.transport) c.in-Ok.length out c.read-from.new.out c.in-Ok.ensures.answer (omega arith) refl (c.read-from.ensures.buffer ∙ ap (λ h. read_buffer h 0 out) first.list) in
+    let first = c.first_length.ensures.kept in
+    let read = c.read_from.ensures.kept in
+    let did = collects s (length out) (q.held p.transport) c.in-Ok.length out c.read_from.new.out c.in-Ok.ensures.answer (omega arith) refl (c.read_from.ensures.buffer ∙ ap (λ h. read_buffer h 0 out) first.list) in
     record {
       call = called (state_of g.F.Meaning q p) _ (collect (length out)) (collected c.in-Ok.length) _ (collecting s did.0) did.2 (ap (λ o. o.copied) did.2)
           (record {

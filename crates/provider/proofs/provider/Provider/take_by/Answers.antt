@@ -14,15 +14,15 @@ use Rattle.provider.proofs.Sending.{leads_by}
 use Rattle.provider.proofs.Moving.{no_one, move_ends, move_takes, move_passes, move_nothing}
 use Rattle.provider.proofs.provider.Provider.take_by.Goals as goal
 
-pub returns-in-default : goal.returns-in-default
-returns-in-default g c =
+pub returns-in_default : goal.returns-in_default
+returns-in_default g c =
     let p = c.args.self.now in
     let q = g.F.Meaning in
     let s = session_of p.session in
     let x = take (c.args.length - 0) c.args.copy.now in
     let z : c.args.length - 0 ≡ c.args.length = omega arith in
     let read = c.requires.read ∙ ap (λ k. one_record (take k c.args.copy.now)) (sym z) in
-    leads_by (state_of q g.T.Meaning p) _ _ (says s idle) _ (move_nothing s (oldest (q.held p.frames)) (read ∙ no_one x c.in-default.ensures))
+    leads_by (state_of q g.T.Meaning p) _ _ (says s idle) _ (move_nothing s (oldest (q.held p.frames)) (read ∙ no_one x c.in_default.ensures))
     (record {
       answer = refl;
       settings = refl;
@@ -32,8 +32,8 @@ returns-in-default g c =
       transport = refl;
     })
 
-pub returns-then-is-late : goal.returns-then-is-late
-returns-then-is-late g c =
+pub returns-then-is_late : goal.returns-then-is_late
+returns-then-is_late g c =
     let p = c.args.self.now in
     let q = g.F.Meaning in
     let s = session_of p.session in
@@ -41,13 +41,13 @@ returns-then-is-late g c =
     let z : c.args.length - 0 ≡ c.args.length = omega arith in
     let read = c.requires.read ∙ ap (λ k. one_record (take k c.args.copy.now)) (sym z) in
     let one = one_of x (said c.in-Some.content) c.in-Some.ensures in
-    let ends = sym (late_is s.selection one.0) ∙ ap (late_content s.selection) one.2 ∙ sym c.if-is-late.ensures in
+    let ends = sym (late_is s.selection one.0) ∙ ap (late_content s.selection) one.2 ∙ sym c.if-is_late.ensures in
     leads_by (state_of q g.T.Meaning p) _ _ (ending s) _ (ap (move_record s) (read ∙ one.1) ∙ move_ends s one.0 ends)
     (record {
       answer = refl;
-      settings = ap settings_of c.enter-end-of-data.ensures.kept.settings;
-      opening = c.enter-end-of-data.ensures.kept.opening;
-      session = c.enter-end-of-data.ensures.session;
+      settings = ap settings_of c.enter_end_of_data.ensures.kept.settings;
+      opening = c.enter_end_of_data.ensures.kept.opening;
+      session = c.enter_end_of_data.ensures.session;
       frames = refl;
       transport = refl;
     })
@@ -61,7 +61,7 @@ returns-then-selects g c =
     let z : c.args.length - 0 ≡ c.args.length = omega arith in
     let read = c.requires.read ∙ ap (λ k. one_record (take k c.args.copy.now)) (sym z) in
     let one = one_of x (said c.in-Some.content) c.in-Some.ensures in
-    let in_time = sym (late_is s.selection one.0) ∙ ap (late_content s.selection) one.2 ∙ sym c.if-is-late.ensures in
+    let in_time = sym (late_is s.selection one.0) ∙ ap (late_content s.selection) one.2 ∙ sym c.if-is_late.ensures in
     let wanted = sym (selected_is s.selection one.0) ∙ ap (selected_content s.selection) one.2 ∙ sym c.if-selects.ensures in
     leads_by (state_of q g.T.Meaning p) _ _ (taking s one.0) _ (ap (move_record s) (read ∙ one.1) ∙ move_takes s one.0 in_time wanted)
     (record {
@@ -83,7 +83,7 @@ returns g c =
     let z : c.args.length - 0 ≡ c.args.length = omega arith in
     let read = c.requires.read ∙ ap (λ k. one_record (take k c.args.copy.now)) (sym z) in
     let one = one_of x (said c.in-Some.content) c.in-Some.ensures in
-    let in_time = sym (late_is s.selection one.0) ∙ ap (late_content s.selection) one.2 ∙ sym c.if-is-late.ensures in
+    let in_time = sym (late_is s.selection one.0) ∙ ap (late_content s.selection) one.2 ∙ sym c.if-is_late.ensures in
     let unwanted = sym (selected_is s.selection one.0) ∙ ap (selected_content s.selection) one.2 ∙ sym c.if-selects.ensures in
     leads_by (state_of q g.T.Meaning p) _ _ (passing s) _ (ap (move_record s) (read ∙ one.1) ∙ move_passes s one.0 in_time unwanted)
     (record {

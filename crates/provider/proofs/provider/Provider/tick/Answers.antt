@@ -14,11 +14,11 @@ use Rattle.provider.proofs.provider.Provider.tick.Goals as goal
 filled : (s : Session) → (s.buffer.count ≡ 0 → ⊥) → is_filled (buffer_records s.buffer) ≡ true
 filled s ne = filled_is (buffer_records s.buffer) (let e = s.buffer.counted in omega arith)
 
-pub returns-then-not-is-active : goal.returns-then-not-is-active
-returns-then-not-is-active g c =
+pub returns-then-not-is_active : goal.returns-then-not-is_active
+returns-then-not-is_active g c =
     let p = c.args.self.now in
     let s = state_of g.F.Meaning g.T.Meaning p in
-    called s s tick quiet [] (says (session_of p.session) quiet) (tick_off (settings_of p.session.settings) (session_of p.session) (queue_of g.T.Meaning p.transport) (sym c.is-active.ensures ∙ c.if-not-is-active.true)) refl (stays s quiet)
+    called s s tick quiet [] (says (session_of p.session) quiet) (tick_off (settings_of p.session.settings) (session_of p.session) (queue_of g.T.Meaning p.transport) (sym c.is_active.ensures ∙ c.if-not-is_active.true)) refl (stays s quiet)
 
 pub returns-then-self-eq0 : goal.returns-then-self-eq0
 returns-then-self-eq0 g c =
@@ -31,8 +31,8 @@ pub returns-then-age-limit : goal.returns-then-age-limit
 returns-then-age-limit g c =
     let p = c.args.self.now in
     let s = session_of p.session in
-    let older : c.saturating-add-age.result ≡ suc p.session.age = omega arith in
-    let young = tick_young (settings_of p.session.settings) s (queue_of g.T.Meaning p.transport) (sym c.is-active.ensures ∙ c.if-not-is-active.false) (filled p.session c.if-self-eq0.false) (omega arith) in
+    let older : c.saturating_add-age.result ≡ suc p.session.age = omega arith in
+    let young = tick_young (settings_of p.session.settings) s (queue_of g.T.Meaning p.transport) (sym c.is_active.ensures ∙ c.if-not-is_active.false) (filled p.session c.if-self-eq0.false) (omega arith) in
     called (state_of g.F.Meaning g.T.Meaning p) _ tick quiet [] (says (aged (suc p.session.age) s) quiet) young refl
     (record { answer = refl; settings = refl; opening = refl; session = ap (λ n. aged n s) older; frames = refl; transport = refl })
 
@@ -40,7 +40,7 @@ pub returns-then-send : goal.returns-then-send
 returns-then-send g c =
     let p = c.args.self.now in
     let s = session_of p.session in
-    let old = tick_old (settings_of p.session.settings) s (queue_of g.T.Meaning p.transport) (sym c.is-active.ensures ∙ c.if-not-is-active.false) (filled p.session c.if-self-eq0.false) (omega arith) in
+    let old = tick_old (settings_of p.session.settings) s (queue_of g.T.Meaning p.transport) (sym c.is_active.ensures ∙ c.if-not-is_active.false) (filled p.session c.if-self-eq0.false) (omega arith) in
     let l = c.if-send.ensures in
     called (state_of g.F.Meaning g.T.Meaning p) _ tick sent [] (send (aged p.session.settings.latency_limit s) (queue_of g.T.Meaning p.transport)) old (copies_nothing (aged p.session.settings.latency_limit s) (queue_of g.T.Meaning p.transport))
     (record { answer = l.answer; settings = l.settings; opening = l.opening; session = l.session; frames = l.frames; transport = l.transport })
@@ -49,7 +49,7 @@ pub returns-else-send : goal.returns-else-send
 returns-else-send g c =
     let p = c.args.self.now in
     let s = session_of p.session in
-    let old = tick_old (settings_of p.session.settings) s (queue_of g.T.Meaning p.transport) (sym c.is-active.ensures ∙ c.if-not-is-active.false) (filled p.session c.if-self-eq0.false) (omega arith) in
+    let old = tick_old (settings_of p.session.settings) s (queue_of g.T.Meaning p.transport) (sym c.is_active.ensures ∙ c.if-not-is_active.false) (filled p.session c.if-self-eq0.false) (omega arith) in
     let l = c.if-send.ensures in
     called (state_of g.F.Meaning g.T.Meaning p) _ tick waiting [] (send (aged p.session.settings.latency_limit s) (queue_of g.T.Meaning p.transport)) old (copies_nothing (aged p.session.settings.latency_limit s) (queue_of g.T.Meaning p.transport))
     (record { answer = l.answer; settings = l.settings; opening = l.opening; session = l.session; frames = l.frames; transport = l.transport })

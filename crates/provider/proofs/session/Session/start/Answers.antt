@@ -6,9 +6,9 @@ pub returns-in-Halted : goal.returns-in-Halted
 unfolding start_by
 returns-in-Halted c = search rules
 
-pub returns-then-is-empty-span : goal.returns-then-is-empty-span
+pub returns-then-is_empty_span : goal.returns-then-is_empty_span
 unfolding start_by
-returns-then-is-empty-span c = search rules
+returns-then-is_empty_span c = search rules
 
 pub returns : goal.returns
 unfolding start_by

@@ -5,8 +5,8 @@ use Rattle.provider.specs.Buffers.{all_well_formed, accepted_count}
 use Rattle.provider.proofs.Buffers.{none_held}
 use Rattle.provider.proofs.transfer_buffer.TransferBuffer.clear.Goals as goal
 
-pub invariant-of-self : goal.invariant-of-self
-invariant-of-self c =
+pub invariant_of-self : goal.invariant_of-self
+invariant_of-self c =
     let none = none_held c.args.self.now.octets in
     (c.args.self.now.size, (omega arith, (omega arith, (ap (flat_map encode) none, (ap all_well_formed none, (sym (ap length none), (sym (ap accepted_count none), tt)))))))
 

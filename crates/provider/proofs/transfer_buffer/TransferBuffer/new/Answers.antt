@@ -6,8 +6,8 @@ use Rattle.provider.specs.Buffers.{all_well_formed, accepted_count}
 use Rattle.provider.proofs.Buffers.{none_held}
 use Rattle.provider.proofs.transfer_buffer.TransferBuffer.new.Goals as goal
 
-pub invariant-of-result : goal.invariant-of-result
-invariant-of-result c =
+pub invariant_of-result : goal.invariant_of-result
+invariant_of-result c =
     let none = none_held (replicate 16488 0) in
     (length-replicate {A = ℕ} 16488 0, (omega arith, (omega arith, (ap (flat_map encode) none, (ap all_well_formed none, (sym (ap length none), (sym (ap accepted_count none), tt)))))))
 

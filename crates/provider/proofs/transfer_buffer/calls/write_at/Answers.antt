@@ -9,4 +9,4 @@ returns c =
     let xs = c.args.out.now in
     let part = c.args.octets.now in
     let e : (at + length part) - at ≡ length part = omega arith in
-    ap (λ k. put_mid at k xs c.copy-from-slice.new.self) e ∙ ap (put_mid at (length part) xs) c.copy-from-slice.ensures.after ∙ ap (λ q. take at xs ++ (part ++ q)) (drop-drop (length part) at xs)
+    ap (λ k. put_mid at k xs c.copy_from_slice.new.self) e ∙ ap (put_mid at (length part) xs) c.copy_from_slice.ensures.after ∙ ap (λ q. take at xs ++ (part ++ q)) (drop-drop (length part) at xs)

@@ -10,6 +10,6 @@ returns g c =
     let me = c.settle-size.new.self in
     let run = c.args.x ∷ [] in
     let held = ap length c.settle-size.ensures.list in
-    let more = grown me.start me.count me.slots.now c.set-round.new.slots run (omega arith) c.set-round.ensures in
+    let more = grown me.start me.count me.slots.now c.set_round.new.slots run (omega arith) c.set_round.ensures in
     let room = le-leb (length (elements old) + length run) (size old) (omega arith) in
     record { answer = rw room; list = rw room (more.0 ∙ ap (λ q. q ++ run) c.settle-size.ensures.list); same = more.1 ∙ c.settle-size.ensures.same }

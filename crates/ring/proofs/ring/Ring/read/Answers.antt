@@ -13,12 +13,12 @@ returns-then-at-self g c =
 pub returns : goal.returns
 returns g c =
     let me = c.settle.new.self in
-    let x = c.element-round.result in
+    let x = c.element_round.result in
     let at = c.args.at in
     let held = ap length c.settle.ensures.list in
-    let found = c.element-round.ensures.answer ∙ sym (get_or-take me.count (turned me.start me.slots.now) at x (omega arith)) ∙ ap (λ q. get_or q at x) c.settle.ensures.list in
+    let found = c.element_round.ensures.answer ∙ sym (get_or-take me.count (turned me.start me.slots.now) at x (omega arith)) ∙ ap (λ q. get_or q at x) c.settle.ensures.list in
     record {
       answer = sym (element_held (elements c.args.self.now) at x (omega arith) found);
-      list = ap (λ q. take me.count (turned me.start q)) c.element-round.ensures.kept ∙ c.settle.ensures.list;
-      same = ap length c.element-round.ensures.kept ∙ c.settle.ensures.same;
+      list = ap (λ q. take me.count (turned me.start q)) c.element_round.ensures.kept ∙ c.settle.ensures.list;
+      same = ap length c.element_round.ensures.kept ∙ c.settle.ensures.same;
     }

@@ -14,7 +14,7 @@ returns g c =
     let all = le-leb (from + n) (length (elements c.args.self.now)) (omega arith) in
     record {
       answer = rw all;
-      buffer = rw all (c.read-round.ensures.buffer ∙ held_run me.start me.count from n me.slots.now (omega arith) ∙ ap (λ q. take n (drop from q)) c.settle.ensures.list);
-      list = ap (λ q. take me.count (turned me.start q)) c.read-round.ensures.kept ∙ c.settle.ensures.list;
-      same = ap length c.read-round.ensures.kept ∙ c.settle.ensures.same;
+      buffer = rw all (c.read_round.ensures.buffer ∙ held_run me.start me.count from n me.slots.now (omega arith) ∙ ap (λ q. take n (drop from q)) c.settle.ensures.list);
+      list = ap (λ q. take me.count (turned me.start q)) c.read_round.ensures.kept ∙ c.settle.ensures.list;
+      same = ap length c.read_round.ensures.kept ∙ c.settle.ensures.same;
     }

@@ -11,13 +11,13 @@ returns-then-rest-eq0 c =
 pub returns : goal.returns
 returns c =
     let os = c.args.self.now.rest.now in
-    let n = c.run-length-n.result in
+    let n = c.run_length-n.result in
     let end = c.if-n-rest.end in
     let ways : (end ≡ n + 1) ⊎ ((end ≡ n) × (length os ≤ n)) =
     elim c.if-n-rest.branch [ then-n-rest w ↦ inl (omega (arith, w.end-is)) | else-n-rest w ↦ inr (omega (arith, w.end-is), omega (arith, w.if-n-rest.false)) ] in
     record {
-      line = line_is os n (omega arith) c.run-length-n.ensures.answer;
-      rest = behind_line os n end c.run-length-n.ensures.answer ways;
-      number = c.saturating-add-self.ensures ∙ one_line_more os c.args.self.now.number (omega arith);
+      line = line_is os n (omega arith) c.run_length-n.ensures.answer;
+      rest = behind_line os n end c.run_length-n.ensures.answer ways;
+      number = c.saturating_add-self.ensures ∙ one_line_more os c.args.self.now.number (omega arith);
       numbered = refl;
     }

@@ -13,15 +13,15 @@ overflow-mul-place c =
 pub onward-self-requires : goal.onward-self-requires
 onward-self-requires c = (next_in c.args.self.now c.requires.0).0
 
-pub invariant-of-self : goal.invariant-of-self
-invariant-of-self c =
+pub invariant_of-self : goal.invariant_of-self
+invariant_of-self c =
     let me = c.args.self.now in
-    let d = put_done me (elements c.add.new.self) (contents c.write-part.new.self) c.onward-self.result c.args.octets.now
-    c.requires.0 c.requires.1 c.add.ensures.list c.write-part.ensures.left c.onward-self.ensures in
+    let d = put_done me (elements c.add.new.self) (contents c.write_part.new.self) c.onward-self.result c.args.octets.now
+    c.requires.0 c.requires.1 c.add.ensures.list c.write_part.ensures.left c.onward-self.ensures in
     (d.0, (omega (arith, d.1, me.within), (omega (arith, d.1, me.bounded), (omega (arith, c.add.ensures.same, me.noted), (d.2, (me.begins, (d.3, tt)))))))
 
 pub returns : goal.returns
 returns c =
-    let d = put_done c.args.self.now (elements c.add.new.self) (contents c.write-part.new.self) c.onward-self.result c.args.octets.now
-    c.requires.0 c.requires.1 c.add.ensures.list c.write-part.ensures.left c.onward-self.ensures in
+    let d = put_done c.args.self.now (elements c.add.new.self) (contents c.write_part.new.self) c.onward-self.result c.args.octets.now
+    c.requires.0 c.requires.1 c.add.ensures.list c.write_part.ensures.left c.onward-self.ensures in
     record { list = d.4; slots = refl; width = refl }

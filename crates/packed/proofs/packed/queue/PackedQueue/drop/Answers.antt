@@ -5,20 +5,20 @@ use Rattle.packed.specs.Holding.{held_in}
 use Rattle.packed.proofs.Packs.{shrunk}
 use Rattle.packed.proofs.packed.queue.PackedQueue.drop.Goals as goal
 
-pub invariant-of-self : goal.invariant-of-self
-invariant-of-self c =
-    let me = c.oldest-length.new.self in
-    let n = c.in-ok-n.field-0 in
-    let told : gives n ≡ first_answer (held_in me) = c.in-ok-n.ensures.answer ∙ ap first_answer (sym c.oldest-length.ensures.list) in
-    let p = shrunk me n (elements c.drop-run.new.self) told c.drop-run.ensures.list in
+pub invariant_of-self : goal.invariant_of-self
+invariant_of-self c =
+    let me = c.oldest_length.new.self in
+    let n = c.in_ok-n.field-0 in
+    let told : gives n ≡ first_answer (held_in me) = c.in_ok-n.ensures.answer ∙ ap first_answer (sym c.oldest_length.ensures.list) in
+    let p = shrunk me n (elements c.drop_run.new.self) told c.drop_run.ensures.list in
     (p.1, (p.2, tt))
 
 pub returns : goal.returns
 returns c =
-    let me = c.oldest-length.new.self in
-    let n = c.in-ok-n.field-0 in
-    let told : gives n ≡ first_answer (held_in me) = c.in-ok-n.ensures.answer ∙ ap first_answer (sym c.oldest-length.ensures.list) in
-    let p = shrunk me n (elements c.drop-run.new.self) told c.drop-run.ensures.list in
-    let list = p.0 ∙ ap rest c.oldest-length.ensures.list in
-    let same = c.drop-run.ensures.same ∙ c.oldest-length.ensures.same in
-    record { answer = p.3 ∙ ap drop_answer c.oldest-length.ensures.list; left = search rules }
+    let me = c.oldest_length.new.self in
+    let n = c.in_ok-n.field-0 in
+    let told : gives n ≡ first_answer (held_in me) = c.in_ok-n.ensures.answer ∙ ap first_answer (sym c.oldest_length.ensures.list) in
+    let p = shrunk me n (elements c.drop_run.new.self) told c.drop_run.ensures.list in
+    let list = p.0 ∙ ap rest c.oldest_length.ensures.list in
+    let same = c.drop_run.ensures.same ∙ c.oldest_length.ensures.same in
+    record { answer = p.3 ∙ ap drop_answer c.oldest_length.ensures.list; left = search rules }

@@ -10,6 +10,6 @@ returns c =
     let n = c.args.n in
     let used : c.count-used.result ≡ packed_size (held_in me) = c.count-used.ensures.answer ∙ ap length c.size-size.ensures.list ∙ used_is me in
     record {
-      answer = c.fits-beside.ensures ∙ ap (λ q. room_beside q c.count-used.result n) c.size-size.ensures.answer ∙ ap (λ q. room_beside (octets_in me) q n) used;
+      answer = c.fits_beside.ensures ∙ ap (λ q. room_beside q c.count-used.result n) c.size-size.ensures.answer ∙ ap (λ q. room_beside (octets_in me) q n) used;
       kept = search rules;
     }

@@ -12,4 +12,4 @@ returns c =
     let octets = contents me.octets in
     let held : c.count-held.result ≡ length (held_in me) = c.count-held.ensures.answer ∙ sym (length-map (elements me.notes) (noted octets)) in
     let list = ap (map (noted octets)) c.count-held.ensures.list in
-    record { answer = c.fits-beside.ensures ∙ ap (λ q. room_beside me.slots me.width q c.args.n) held; kept = search rules }
+    record { answer = c.fits_beside.ensures ∙ ap (λ q. room_beside me.slots me.width q c.args.n) held; kept = search rules }
