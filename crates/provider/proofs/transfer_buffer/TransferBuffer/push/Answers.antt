@@ -26,8 +26,8 @@ returns c =
     c.requires.one c.requires.room c.write_at.ensures c.accepted_weight.ensures in
     record { more = p.1; count = refl }
 
-pub overflow-add-self-3 : goal.overflow-add-self-3
-overflow-add-self-3 c =
+pub overflow_add-self-3 : goal.overflow_add-self-3
+overflow_add-self-3 c =
     let b = c.args.self.now in
     let small = accepted_small b.octets b.used b.count b.accepted c.accepted_weight.result (said c.args.content.now) (kept b) c.accepted_weight.ensures in
     omega arith

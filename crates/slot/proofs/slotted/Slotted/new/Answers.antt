@@ -12,4 +12,12 @@ invariant_of-result c =
     let o = ap length c.new.ensures in
     let sw = ap (λ q. q * w) c.slots_of-slots.ensures in
     let z = ap length none in
-    (ap (in_turn s w 0) none, (omega (arith, l.0, o, sw), (omega (arith, o), (omega (arith, l.1, c.slots_of-slots.ensures, c.new-2.ensures.same), (omega (arith, z), ((λ h. h), (sym (ap (λ q. slot_after s 0 (length q)) none), tt)))))))
+    record {
+      placed = ap (in_turn s w 0) none;
+      within = omega (arith, l.0, o, sw);
+      bounded = omega (arith, o);
+      noted = omega (arith, l.1, c.slots_of-slots.ensures, c.new-2.ensures.same);
+      few = omega (arith, z);
+      begins = λ h. h;
+      follows = sym (ap (λ q. slot_after s 0 (length q)) none);
+    }

@@ -4,8 +4,8 @@ use Rattle.ring.specs.Rings.{elements}
 use Rattle.slot.proofs.Puts.{next_in, put_done}
 use Rattle.slot.proofs.slotted.Slotted.put.Goals as goal
 
-pub overflow-mul-place : goal.overflow-mul-place
-overflow-mul-place c =
+pub overflow_mul-place : goal.overflow_mul-place
+overflow_mul-place c =
     let me = c.args.self.now in
     let at = next_in me c.requires.0 in
     omega (arith, at.1, me.bounded)
@@ -18,7 +18,15 @@ invariant_of-self c =
     let me = c.args.self.now in
     let d = put_done me (elements c.add.new.self) (contents c.write_part.new.self) c.onward-self.result c.args.octets.now
     c.requires.0 c.requires.1 c.add.ensures.list c.write_part.ensures.left c.onward-self.ensures in
-    (d.0, (omega (arith, d.1, me.within), (omega (arith, d.1, me.bounded), (omega (arith, c.add.ensures.same, me.noted), (d.2, (me.begins, (d.3, tt)))))))
+    record {
+      placed = d.0;
+      within = omega (arith, d.1, me.within);
+      bounded = omega (arith, d.1, me.bounded);
+      noted = omega (arith, c.add.ensures.same, me.noted);
+      few = d.2;
+      begins = me.begins;
+      follows = d.3;
+    }
 
 pub returns : goal.returns
 returns c =

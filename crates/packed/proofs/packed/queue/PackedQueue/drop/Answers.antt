@@ -11,7 +11,7 @@ invariant_of-self c =
     let n = c.in_ok-n.field-0 in
     let told : gives n ≡ first_answer (held_in me) = c.in_ok-n.ensures.answer ∙ ap first_answer (sym c.oldest_length.ensures.list) in
     let p = shrunk me n (elements c.drop_run.new.self) told c.drop_run.ensures.list in
-    (p.1, (p.2, tt))
+    record { whole = p.1; counted = p.2 }
 
 pub returns : goal.returns
 returns c =

@@ -23,8 +23,8 @@ returns-then-place-note c =
     let list = ap (map (noted (contents me.octets))) c.read.ensures.list in
     record { answer = p.0; buffer = p.1; kept = search rules }
 
-pub overflow-add-note : goal.overflow-add-note
-overflow-add-note c =
+pub overflow_add-note : goal.overflow_add-note
+overflow_add-note c =
     let me = c.args.self.now in
     let t = told me c.in-Ok.note c.in-Ok.ensures.answer in
     omega (arith, t.3, me.bounded)
