@@ -2,7 +2,7 @@
 use Rattle.std.specs.Prelude.{ℕ, zero, suc, ◌-◌, List, [], ◌∷◌, ◌++◌, codes, decimal}
 use Rattle.script.specs.Hexadecimal.{hexadecimal_text}
 use Rattle.codec.specs.Faults.{letter_of}
-use Rattle.histories.specs.Calls.{Answer, accepted, refused, idle, waiting, sent, moved, passedOver, ended, quiet, collected, start_done, stop_done, bind_done, unbind_done, abort_done, undecodable, protocol_error}
+use Rattle.histories.specs.Calls.{Answer, accepted, refused, idle, waiting, sent, moved, passed_over, ended, quiet, collected, start_done, stop_done, bind_done, unbind_done, abort_done, undecodable, protocol_error}
 use Rattle.histories.specs.Accounts.{Account}
 
 abbrev pub refusal_line : ℕ → List ℕ
@@ -21,7 +21,7 @@ answer_line idle copied = codes "idle\n"
 answer_line waiting copied = codes "waiting\n"
 answer_line sent copied = codes "sent\n"
 answer_line moved copied = codes "moved\n"
-answer_line passedOver copied = codes "passed over\n"
+answer_line passed_over copied = codes "passed over\n"
 answer_line ended copied = codes "ended\n"
 answer_line quiet copied = codes "quiet\n"
 answer_line (collected n) copied = codes "collected " ++ (decimal n ++ (codes " " ++ (hexadecimal_text copied ++ codes "\n")))

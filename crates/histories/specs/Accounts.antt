@@ -1,8 +1,9 @@
 -- The account of a history: how many records and PDUs came to what, counted from the answers alone.
-use mathlib.Core.{Path.◌≡◌, List.List, List.[], List.◌∷◌}
-use Rattle.std.specs.Prelude.{ℕ, zero, suc, ◌+◌, ◌-◌}
-use lib.{ListN.length}
-use Rattle.histories.specs.{Calls.Answer, Calls.accepted, Calls.refused, Calls.idle, Calls.waiting, Calls.sent, Calls.moved, Calls.passedOver, Calls.ended, Calls.quiet, Calls.collected, Calls.start_done, Calls.stop_done, Calls.bind_done, Calls.unbind_done, Calls.abort_done, Calls.undecodable, Calls.protocol_error, Provider.State, Ledger.Event, Ledger.Ledger, Ledger.acceptances, Ledger.ledger, Histories.History}
+use Rattle.std.specs.Prelude.{◌≡◌, List, [], ◌∷◌, ℕ, zero, suc, ◌+◌, ◌-◌, length}
+use Rattle.histories.specs.Calls.{Answer, accepted, refused, idle, waiting, sent, moved, passed_over, ended, quiet, collected, start_done, stop_done, bind_done, unbind_done, abort_done, undecodable, protocol_error}
+use Rattle.histories.specs.Provider.{State}
+use Rattle.histories.specs.Ledger.{Event, Ledger, acceptances, ledger}
+use Rattle.histories.specs.Histories.{History}
 
 -- Accepted records, all of them and by their fates; PDUs sent to the transport and collected there.
 pub record Account : Type 0 where
@@ -46,7 +47,7 @@ counted idle a = a
 counted waiting a = a
 counted sent a = one_sent a
 counted moved a = one_moved a
-counted passedOver a = one_passed a
+counted passed_over a = one_passed a
 counted ended a = a
 counted quiet a = a
 counted (collected n) a = one_collected a

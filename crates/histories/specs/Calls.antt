@@ -1,8 +1,13 @@
 -- The calls of a provider, their answers, and what a call comes to.
-use Rattle.std.specs.Prelude.{ℕ, zero, suc, List, []}
-use Rattle.std.specs.{declared.option.Option.Option, declared.option.Option.TheVariants.Some, declared.option.Option.TheVariants.None}
-use Rattle.codec.specs.{declared.fault.Fault.Fault, declared.record.Quality.Quality, declared.record.ProductionStatus.ProductionStatus, Times.Stamp, Records.Record, Records.frame, Records.loss, Records.status, RecordReading.quality_of, RecordReading.status_of}
-use Rattle.histories.specs.{Queues.Effect, Queues.keep, Sessions.Session}
+use Rattle.std.specs.Prelude.{ℕ, zero, suc, List, [], Option, Some, None}
+use Rattle.codec.specs.declared.fault.Fault.{Fault}
+use Rattle.codec.specs.declared.record.Quality.{Quality}
+use Rattle.codec.specs.declared.record.ProductionStatus.{ProductionStatus}
+use Rattle.codec.specs.Times.{Stamp}
+use Rattle.codec.specs.Records.{Record, frame, loss, status}
+use Rattle.codec.specs.RecordReading.{quality_of, status_of}
+use Rattle.histories.specs.Queues.{Effect, keep}
+use Rattle.histories.specs.Sessions.{Session}
 
 -- An acquisition has the numbers of a quality and a time, unchecked, and data; a note has a type, a time and a status; a collection the length of the caller's buffer; an invocation its octets.
 pub data Call : Type 0 where
@@ -18,7 +23,7 @@ pub data Call : Type 0 where
 pub data Answer : Type 0 where
   accepted : Answer
   refused : ℕ → Answer
-  idle waiting sent moved passedOver ended quiet : Answer
+  idle waiting sent moved passed_over ended quiet : Answer
   collected : ℕ → Answer
   start_done : ℕ → Answer
   stop_done : ℕ → Answer

@@ -1,14 +1,14 @@
 -- How records leave: sending, tick and collection. Nothing here knows of the frame buffer.
-use mathlib.Core.{Bool.Bool, Bool.true, Bool.false, Bool.cond, Bool.◌&&◌, List.List, List.[], List.◌∷◌}
-use Rattle.std.specs.Prelude.{ℕ, suc}
-use lib.{Dec.leb, Dec.ltb, ListN.length, ListN.take, ListN.drop}
-use Rattle.std.specs.{shelf.Lists.joined}
-use Rattle.codec.specs.{Records.Record, Records.encode}
-use Rattle.histories.specs.{Queues.Queue, Queues.keep, Queues.add, Queues.drop_oldest, Sessions.Settings, Sessions.Session, Sessions.is_active, Sessions.aged, Sessions.holding, Calls.Outcome, Calls.says, Calls.refuses, Calls.waiting, Calls.sent, Calls.quiet, Calls.collected}
+use Rattle.std.specs.Prelude.{Bool, true, false, cond, ◌&&◌, List, [], ◌∷◌, ℕ, suc, nat_le, nat_lt, length, take, drop}
+use Rattle.std.specs.List.{flat_map}
+use Rattle.codec.specs.Records.{Record, encode}
+use Rattle.histories.specs.Queues.{Queue, keep, add, drop_oldest}
+use Rattle.histories.specs.Sessions.{Settings, Session, is_active, aged, holding}
+use Rattle.histories.specs.Calls.{Outcome, says, refuses, waiting, sent, quiet, collected}
 
 -- A transfer PDU: the octets of records, joined.
 abbrev pub transfer_pdu : List Record → List ℕ
-transfer_pdu rs = joined encode rs
+transfer_pdu rs = flat_map encode rs
 
 -- The first k records of the transfer buffer are added to the transport as one PDU, or wait for room there.
 unfoldable pub send_first : ℕ → Session → Queue → Outcome
@@ -28,7 +28,7 @@ is_filled (r ∷ rs) = true
 
 -- With one tick more the age is still below the limit.
 abbrev pub is_young : Settings → Session → Bool
-is_young g s = ltb (suc s.age) g.latency_limit
+is_young g s = nat_lt (suc s.age) g.latency_limit
 
 -- A tick while active, with records in the transfer buffer, makes them one tick older, to at most the limit; at the limit they are sent.
 unfoldable pub tick_by : Settings → Session → Queue → Outcome
@@ -46,4 +46,4 @@ collecting s pdu = record { answer = collected (length pdu); copied = pdu; sessi
 -- A collection into a buffer of n octets.
 unfoldable pub collect_by : Session → ℕ → List (List ℕ) → Outcome
 collect_by s n [] = refuses s 30
-collect_by s n (pdu ∷ pdus) = cond (leb (length pdu) n) (collecting s pdu) (refuses s 34)
+collect_by s n (pdu ∷ pdus) = cond (nat_le (length pdu) n) (collecting s pdu) (refuses s 34)

@@ -1,14 +1,23 @@
 -- Worked examples, evaluated: calls played over ideal queues, their answers, and a history with its ledger.
-use mathlib.Core.{Path.◌≡◌, Bool.◌&&◌, List.List, List.[], List.◌∷◌, List.◌++◌, List.map}
-use Rattle.std.specs.Prelude.{ℕ, ◌*◌}
-use lib.{Dec.leb, ListN.drop}
-use Rattle.std.specs.{declared.option.Option.Option, declared.option.Option.TheVariants.Some, declared.option.Option.TheVariants.None}
-use Rattle.codec.specs.{declared.record.Quality.Quality, declared.record.Quality.TheVariants.Good, declared.record.Quality.TheVariants.Erred, declared.invocation.RequestedQuality.TheVariants.GoodOnly, declared.invocation.RequestedQuality.TheVariants.All, Limits.longest_record, Times.Stamp, Records.Record, Records.frame, Records.end_of_data, Records.encode, Records.quality_octet, Invocations.start, Invocations.stop, Invocations.bind, Invocations.layout}
-use Rattle.histories.specs.{Queues.Queue, Queues.Effect, Queues.keep, Queues.add, Queues.drop_oldest, Sessions.Settings, Sessions.unbound, Calls.Call, Calls.acquire, Calls.move, Calls.tick, Calls.collect, Calls.invoke, Calls.Outcome, Calls.Answer, Calls.accepted, Calls.idle, Calls.quiet, Calls.sent, Calls.moved, Calls.passedOver, Calls.ended, Calls.collected, Calls.start_done, Calls.stop_done, Calls.bind_done, Calls.protocol_error, Provider.State, Provider.opened, Provider.outcome, Ledger.Event, Ledger.Acceptance, Ledger.ledger, Ledger.acceptances, Ledger.own_acceptances, Histories.History, Statements.records_of, Statements.due, Statements.Finished}
+use Rattle.std.specs.Prelude.{◌≡◌, ◌&&◌, List, [], ◌∷◌, ◌++◌, map, ℕ, ◌*◌, nat_le, drop, Option, Some, None}
+use Rattle.codec.specs.declared.record.Quality.{Quality}
+use Rattle.codec.specs.declared.record.Quality.TheVariants.{Good, Erred}
+use Rattle.codec.specs.declared.invocation.RequestedQuality.TheVariants.{GoodOnly, All}
+use Rattle.codec.specs.Limits.{longest_record}
+use Rattle.codec.specs.Times.{Stamp}
+use Rattle.codec.specs.Records.{Record, frame, end_of_data, encode, quality_octet}
+use Rattle.codec.specs.Invocations.{start, stop, bind, layout}
+use Rattle.histories.specs.Queues.{Queue, Effect, keep, add, drop_oldest}
+use Rattle.histories.specs.Sessions.{Settings, unbound}
+use Rattle.histories.specs.Calls.{Call, acquire, move, tick, collect, invoke, Outcome, Answer, accepted, idle, quiet, sent, moved, passed_over, ended, collected, start_done, stop_done, bind_done, protocol_error}
+use Rattle.histories.specs.Provider.{State, opened, outcome}
+use Rattle.histories.specs.Ledger.{Event, Acceptance, ledger, acceptances, own_acceptances}
+use Rattle.histories.specs.Histories.{History}
+use Rattle.histories.specs.Statements.{records_of, due, Finished}
 
 -- An ideal queue has room for every length from 1 to its largest, whatever it holds.
 abbrev pub ideal : ℕ → List (List ℕ) → Queue
-ideal n held = record { held = held; largest = n; room = λ k. leb 1 k && leb k n }
+ideal n held = record { held = held; largest = n; room = λ k. nat_le 1 k && nat_le k n }
 
 abbrev pub ideal_after : Queue → Effect → Queue
 ideal_after q keep = q
@@ -67,14 +76,14 @@ EndsAreSelected =
 abbrev pub ErredIsPassedOver : Type 0
 ErredIsPassedOver =
     answers beginning (binding ∷ received Good 1 ∷ received Erred 2 ∷ received Good 3 ∷ starting_good None ∷ move ∷ move ∷ move ∷ move ∷ move ∷ [])
-    ≡ bind_done 7 1 ∷ accepted ∷ accepted ∷ accepted ∷ start_done 8 ∷ moved ∷ passedOver ∷ moved ∷ sent ∷ idle ∷ []
+    ≡ bind_done 7 1 ∷ accepted ∷ accepted ∷ accepted ∷ start_done 8 ∷ moved ∷ passed_over ∷ moved ∷ sent ∷ idle ∷ []
 
 -- The same with stop at the third frame's time and a later fourth, which is held.
 abbrev pub stopped_calls : List Call
 stopped_calls = binding ∷ received Good 1 ∷ received Erred 2 ∷ received Good 3 ∷ received Good 4 ∷ starting_good (Some (on_day 3)) ∷ move ∷ move ∷ move ∷ move ∷ move ∷ move ∷ move ∷ []
 
 pub record LateFrameIsHeld : Type 0 where
-  pub answered : answers beginning stopped_calls ≡ bind_done 7 1 ∷ accepted ∷ accepted ∷ accepted ∷ accepted ∷ start_done 8 ∷ moved ∷ passedOver ∷ moved ∷ sent ∷ ended ∷ sent ∷ idle ∷ []
+  pub answered : answers beginning stopped_calls ≡ bind_done 7 1 ∷ accepted ∷ accepted ∷ accepted ∷ accepted ∷ start_done 8 ∷ moved ∷ passed_over ∷ moved ∷ sent ∷ ended ∷ sent ∷ idle ∷ []
   pub held : (finally beginning stopped_calls).frames.held ≡ encode (dated Good 4) ∷ []
 
 -- START when active, one record moved.
@@ -105,7 +114,7 @@ numbers all = map (λ (a : Acceptance). a.number) all
 pub record WorkedLedger : Type 0 where
   pub answered : answers beginning worked_calls
       ≡ bind_done 7 1 ∷ accepted ∷ start_done 8 ∷ moved ∷ protocol_error 1
-      ∷ bind_done 7 1 ∷ accepted ∷ accepted ∷ accepted ∷ accepted ∷ start_done 8 ∷ moved ∷ passedOver ∷ moved ∷ sent ∷ ended ∷ stop_done 9
+      ∷ bind_done 7 1 ∷ accepted ∷ accepted ∷ accepted ∷ accepted ∷ start_done 8 ∷ moved ∷ passed_over ∷ moved ∷ sent ∷ ended ∷ stop_done 9
       ∷ start_done 10 ∷ quiet ∷ quiet ∷ sent ∷ moved ∷ idle ∷ quiet ∷ quiet ∷ sent ∷ collected 30 ∷ collected 12 ∷ collected 15 ∷ []
   pub finished : Finished (ledger worked_events)
   pub third_run : (ledger worked_events).run.number ≡ 3

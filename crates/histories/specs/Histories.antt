@@ -1,6 +1,9 @@
 -- Histories: from an accepted opening on, any sequence of calls, refused ones too, each on the result of the one before, over any lawful queues.
-use mathlib.Core.{Path.◌≡◌, List.List, List.[], List.◌∷◌}
-use Rattle.histories.specs.{Queues.Queue, Queues.Lawful, Queues.After, Sessions.Settings, Provider.State, Provider.opening_number, Provider.opened, Provider.outcome, Ledger.Event}
+use Rattle.std.specs.Prelude.{◌≡◌, List, [], ◌∷◌}
+use Rattle.histories.specs.Queues.{Queue, Lawful, After}
+use Rattle.histories.specs.Sessions.{Settings}
+use Rattle.histories.specs.Provider.{State, opening_number, opened, outcome}
+use Rattle.histories.specs.Ledger.{Event}
 
 -- A call of the provider: from state s, by the event e, to state s'. It answers, copies and does what it comes to; what a queue makes of its room is free within the laws.
 pub record Step (s : State) (e : Event) (s' : State) : Type 0 where

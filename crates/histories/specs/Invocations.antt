@@ -1,10 +1,19 @@
 -- What an invocation does: phase and operation together decide, by one table.
-use mathlib.Core.{Bool.Bool, Bool.true, Bool.false, Bool.cond, List.List, List.[]}
-use Rattle.std.specs.Prelude.{ℕ}
-use lib.{Dec.leb, ListN.length}
-use Rattle.std.specs.{declared.option.Option.Option, declared.result.Result.Result, declared.result.Result.TheVariants.Ok, declared.result.Result.TheVariants.Err, shelf.Lists.kept_by, shelf.Text.sameBytes}
-use Rattle.codec.specs.{declared.fault.Fault.Fault, declared.record.ProductionStatus.ProductionStatus, declared.record.ProductionStatus.TheVariants.Running, declared.record.ProductionStatus.TheVariants.Interrupted, declared.record.ProductionStatus.TheVariants.Halted, declared.invocation.RequestedQuality.RequestedQuality, declared.invocation.UnbindReason.UnbindReason, declared.invocation.UnbindReason.TheVariants.End, declared.invocation.UnbindReason.TheVariants.Suspend, declared.invocation.UnbindReason.TheVariants.VersionNotSupported, declared.invocation.UnbindReason.TheVariants.Other, Times.Stamp, Records.Record, Records.frame, Records.loss, Records.status, Records.end_of_data, Invocations.Request, Invocations.start, Invocations.stop, Invocations.bind, Invocations.unbind, Invocations.abort, InvocationReading.request_in}
-use Rattle.histories.specs.{Sessions.Settings, Sessions.Phase, Sessions.unbound, Sessions.ready, Sessions.active, Sessions.closed, Sessions.Selection, Sessions.empty_span, Sessions.Session, Sessions.to_phase, Sessions.holding, Sessions.selecting, Calls.Answer, Calls.start_done, Calls.stop_done, Calls.bind_done, Calls.unbind_done, Calls.abort_done, Calls.undecodable, Calls.protocol_error, Calls.Outcome, Calls.says, Calls.refuses}
+use Rattle.std.specs.Prelude.{Bool, true, false, cond, List, [], ℕ, nat_le, length, Option, Result, Ok, Err}
+use Rattle.std.specs.List.{filter}
+use Rattle.std.specs.Str.{bytes_eq}
+use Rattle.codec.specs.declared.fault.Fault.{Fault}
+use Rattle.codec.specs.declared.record.ProductionStatus.{ProductionStatus}
+use Rattle.codec.specs.declared.record.ProductionStatus.TheVariants.{Running, Interrupted, Halted}
+use Rattle.codec.specs.declared.invocation.RequestedQuality.{RequestedQuality}
+use Rattle.codec.specs.declared.invocation.UnbindReason.{UnbindReason}
+use Rattle.codec.specs.declared.invocation.UnbindReason.TheVariants.{End, Suspend, VersionNotSupported, Other}
+use Rattle.codec.specs.Times.{Stamp}
+use Rattle.codec.specs.Records.{Record, frame, loss, status, end_of_data}
+use Rattle.codec.specs.Invocations.{Request, start, stop, bind, unbind, abort}
+use Rattle.codec.specs.InvocationReading.{request_in}
+use Rattle.histories.specs.Sessions.{Settings, Phase, unbound, ready, active, closed, Selection, empty_span, Session, to_phase, holding, selecting}
+use Rattle.histories.specs.Calls.{Answer, start_done, stop_done, bind_done, unbind_done, abort_done, undecodable, protocol_error, Outcome, says, refuses}
 
 -- A cell of the table: the phase that an operation leads to, if it is accepted; a protocol error (21); or another refusal's number.
 pub data Cell : Type 0 where
@@ -47,7 +56,7 @@ is_accepted end_of_data = false
 
 -- How many accepted records a discard of the transfer buffer loses.
 abbrev pub lost : Session → ℕ
-lost s = length (kept_by is_accepted s.buffer)
+lost s = length (filter is_accepted s.buffer)
 
 -- The transfer buffer is discarded and the association ends; the answer tells the loss.
 abbrev pub discard : Session → (ℕ → Answer) → Outcome
@@ -56,8 +65,8 @@ discard s answer = says (to_phase unbound (holding [] s)) (answer (lost s))
 -- A BIND brings the provider's identifier, and its version or a higher one.
 unfoldable pub bind_by : Settings → Session → Phase → ℕ → ℕ → List ℕ → Outcome
 bind_by g s p id version identifier =
-    cond (sameBytes identifier g.identifier)
-    (cond (leb g.version version) (says (to_phase p s) (bind_done id g.version)) (refuses s 23))
+    cond (bytes_eq identifier g.identifier)
+    (cond (nat_le g.version version) (says (to_phase p s) (bind_done id g.version)) (refuses s 23))
     (refuses s 22)
 
 abbrev pub is_halted : ProductionStatus → Bool

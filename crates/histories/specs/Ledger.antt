@@ -1,10 +1,13 @@
 -- The ledger of a history: fed each call's arguments and answer, and the octets that a collection copied, it keeps what became of every record.
-use mathlib.Core.{Bool.Bool, Bool.true, Bool.false, Bool.cond, List.List, List.[], List.◌∷◌, List.◌++◌, List.map}
-use Rattle.std.specs.Prelude.{ℕ, zero, suc}
-use lib.{Dec.eqb, ListN.length, ListN.take, ListN.drop}
-use Rattle.std.specs.{declared.option.Option.Option, declared.option.Option.TheVariants.Some, declared.option.Option.TheVariants.None, declared.result.Result.Result, declared.result.Result.TheVariants.Ok, declared.result.Result.TheVariants.Err}
-use Rattle.codec.specs.{declared.fault.Fault.Fault, Records.Record, Records.end_of_data, Invocations.Request, Invocations.start, Invocations.stop, Invocations.bind, Invocations.unbind, Invocations.abort, InvocationReading.request_in}
-use Rattle.histories.specs.{Sessions.Phase, Sessions.unbound, Sessions.ready, Sessions.active, Sessions.closed, Sessions.is_active, Sessions.Selection, Calls.Call, Calls.acquire, Calls.note, Calls.move, Calls.tick, Calls.collect, Calls.invoke, Calls.argument, Calls.Answer, Calls.accepted, Calls.refused, Calls.idle, Calls.waiting, Calls.sent, Calls.moved, Calls.passedOver, Calls.ended, Calls.quiet, Calls.collected, Calls.start_done, Calls.stop_done, Calls.bind_done, Calls.unbind_done, Calls.abort_done, Calls.undecodable, Calls.protocol_error, Invocations.Cell, Invocations.to, Invocations.cell_protocol_error, Invocations.refusal, Invocations.table, Invocations.selection_of, Provider.everything}
+use Rattle.std.specs.Prelude.{Bool, true, false, cond, List, [], ◌∷◌, ◌++◌, map, ℕ, zero, suc, ◌==◌, length, take, drop, Option, Some, None, Result, Ok, Err}
+use Rattle.codec.specs.declared.fault.Fault.{Fault}
+use Rattle.codec.specs.Records.{Record, end_of_data}
+use Rattle.codec.specs.Invocations.{Request, start, stop, bind, unbind, abort}
+use Rattle.codec.specs.InvocationReading.{request_in}
+use Rattle.histories.specs.Sessions.{Phase, unbound, ready, active, closed, is_active, Selection}
+use Rattle.histories.specs.Calls.{Call, acquire, note, move, tick, collect, invoke, argument, Answer, accepted, refused, idle, waiting, sent, moved, passed_over, ended, quiet, collected, start_done, stop_done, bind_done, unbind_done, abort_done, undecodable, protocol_error}
+use Rattle.histories.specs.Invocations.{Cell, to, cell_protocol_error, refusal, table, selection_of}
+use Rattle.histories.specs.Provider.{everything}
 
 -- What the ledger is fed: a call, its answer, and the octets that it copied out.
 pub record Event : Type 0 where
@@ -166,7 +169,7 @@ on_answer e idle l = l
 on_answer e waiting l = l
 on_answer e sent l = hand_over l
 on_answer e moved l = take_oldest l
-on_answer e passedOver l = pass_oldest l
+on_answer e passed_over l = pass_oldest l
 on_answer e ended l = end_run l
 on_answer e quiet l = l
 on_answer e (collected n) l = set_pdus (l.pdus ++ e.copied ∷ []) l
@@ -215,7 +218,7 @@ acceptances (e ∷ es) = content_of e.content ++ acceptances es
 -- Those among them that the moves of run n put in.
 abbrev pub own_acceptances : ℕ → List Entry → List Acceptance
 own_acceptances n [] = []
-own_acceptances n (e ∷ es) = cond (eqb e.run n) (content_of e.content) [] ++ own_acceptances n es
+own_acceptances n (e ∷ es) = cond (e.run == n) (content_of e.content) [] ++ own_acceptances n es
 
 -- The record that was accepted under a number.
 abbrev pub accepted_as : List Record → ℕ → Option Record

@@ -1,7 +1,11 @@
 -- Delivery goes on: a run that is served finishes, and any calls can be served.
-use mathlib.Core.{Path.◌≡◌, List.List, List.[], List.◌∷◌, List.◌++◌}
-use Rattle.std.specs.Prelude.{ℕ, ◌*◌, ◌≤◌, length, replicate}
-use Rattle.histories.specs.{Sessions.active, Calls.Call, Calls.move, Calls.tick, Calls.collect, Provider.State, Ledger.Event, Ledger.Ledger, Ledger.ledger, Histories.Step, Histories.History, Statements.Finished}
+use Rattle.std.specs.Prelude.{◌≡◌, List, [], ◌∷◌, ◌++◌, ℕ, ◌*◌, ◌≤◌, length, replicate}
+use Rattle.histories.specs.Sessions.{active}
+use Rattle.histories.specs.Calls.{Call, move, tick, collect}
+use Rattle.histories.specs.Provider.{State}
+use Rattle.histories.specs.Ledger.{Event, Ledger, ledger}
+use Rattle.histories.specs.Histories.{Step, History}
+use Rattle.histories.specs.Statements.{Finished}
 
 -- From one history to a longer one by calls made in this order, each finding the transport empty; between them the collector may collect.
 pub data Served : List Call → List Event → State → List Event → State → Type 0 where

@@ -1,10 +1,17 @@
 -- The provider of complete online delivery: opening, acquisition, note and move; and so what each of its calls does.
-use mathlib.Core.{Bool.Bool, Bool.true, Bool.false, Bool.cond, Bool.◌&&◌, Bool.◌||◌, List.List, List.[], List.◌∷◌}
-use Rattle.std.specs.Prelude.{ℕ, zero, suc, ◌*◌}
-use lib.{Dec.eqb, Dec.leb, ListN.length}
-use Rattle.std.specs.{declared.option.Option.Option, declared.option.Option.TheVariants.Some, declared.option.Option.TheVariants.None}
-use Rattle.codec.specs.{declared.record.ProductionStatus.TheVariants.Running, declared.invocation.RequestedQuality.TheVariants.All, Times.timely, Records.Record, Records.frame, Records.loss, Records.status, Records.end_of_data, Records.encode, Records.data_length_allowed, RecordReading.one_record, Limits.longest_record, Invocations.identifier_length_allowed}
-use Rattle.histories.specs.{Queues.Queue, Queues.keep, Queues.add, Queues.drop_oldest, Sessions.Settings, Sessions.Phase, Sessions.unbound, Sessions.closed, Sessions.is_active, Sessions.is_closed, Sessions.Selection, Sessions.selected, Sessions.late, Sessions.Session, Sessions.producing, Sessions.marked, Sessions.entered, Calls.Call, Calls.acquire, Calls.note, Calls.move, Calls.tick, Calls.collect, Calls.invoke, Calls.argument, Calls.Outcome, Calls.says, Calls.refuses, Calls.accepted, Calls.idle, Calls.moved, Calls.passedOver, Calls.ended, Delivery.send, Delivery.is_filled, Delivery.tick_by, Delivery.collect_by, Invocations.invoke_by}
+use Rattle.std.specs.Prelude.{Bool, true, false, cond, ◌&&◌, ◌||◌, List, [], ◌∷◌, ℕ, zero, suc, ◌*◌, ◌==◌, nat_le, length, Option, Some, None}
+use Rattle.codec.specs.declared.record.ProductionStatus.TheVariants.{Running}
+use Rattle.codec.specs.declared.invocation.RequestedQuality.TheVariants.{All}
+use Rattle.codec.specs.Times.{timely}
+use Rattle.codec.specs.Records.{Record, frame, loss, status, end_of_data, encode, data_length_allowed}
+use Rattle.codec.specs.RecordReading.{one_record}
+use Rattle.codec.specs.Limits.{longest_record}
+use Rattle.codec.specs.Invocations.{identifier_length_allowed}
+use Rattle.histories.specs.Queues.{Queue, keep, add, drop_oldest}
+use Rattle.histories.specs.Sessions.{Settings, Phase, unbound, closed, is_active, is_closed, Selection, selected, late, Session, producing, marked, entered}
+use Rattle.histories.specs.Calls.{Call, acquire, note, move, tick, collect, invoke, argument, Outcome, says, refuses, accepted, idle, moved, passed_over, ended}
+use Rattle.histories.specs.Delivery.{send, is_filled, tick_by, collect_by}
+use Rattle.histories.specs.Invocations.{invoke_by}
 
 -- The state of a provider: its settings and the number of its opening, which never change; its session; its two queues.
 pub record State : Type 0 where
@@ -25,7 +32,7 @@ abbrev pub highest_version : ℕ
 highest_version = 255
 
 abbrev pub up_to : ℕ → ℕ → Bool
-up_to limit n = leb 1 n && leb n limit
+up_to limit n = nat_le 1 n && nat_le n limit
 
 abbrev pub in_range : Settings → Bool
 in_range g =
@@ -34,14 +41,14 @@ in_range g =
     && (up_to highest_version g.version && identifier_length_allowed (length g.identifier)))
 
 abbrev pub is_empty : Queue → Bool
-is_empty q = eqb (length q.held) 0
+is_empty q = length q.held == 0
 
 -- The number of an opening: 1 a setting out of range, 2 a queue not empty, 3 a queue too narrow, 0 accepted.
 unfoldable pub opening_number : Settings → Queue → Queue → ℕ
 opening_number g frames transport =
     cond (in_range g)
     (cond (is_empty frames && is_empty transport)
-    (cond (leb longest_record frames.largest && leb (g.buffer_size * longest_record) transport.largest) 0 3)
+    (cond (nat_le longest_record frames.largest && nat_le (g.buffer_size * longest_record) transport.largest) 0 3)
     2)
     1
 
@@ -112,7 +119,7 @@ abbrev pub taking : Session → Record → Outcome
 taking s r = record { answer = moved; copied = []; session = entered r s; on_frames = drop_oldest; on_transport = keep }
 
 abbrev pub passing : Session → Outcome
-passing s = record { answer = passedOver; copied = []; session = s; on_frames = drop_oldest; on_transport = keep }
+passing s = record { answer = passed_over; copied = []; session = s; on_frames = drop_oldest; on_transport = keep }
 
 -- What a move asks of a record: whether it ends the run, and then whether it is to be sent.
 abbrev pub ends_run : Session → Record → Bool
@@ -128,7 +135,7 @@ move_record s (Some r) = cond (ends_run s r) (ending s) (cond (is_taken s r) (ta
 
 -- The transfer buffer is sent when it is full, and what it has when the end mark is set.
 abbrev pub must_send : Settings → Session → Bool
-must_send g s = eqb (length s.buffer) g.buffer_size || (s.end_mark && is_filled s.buffer)
+must_send g s = (length s.buffer == g.buffer_size) || (s.end_mark && is_filled s.buffer)
 
 -- A move: send what must be sent, else look at the oldest record, unless the end mark is set.
 unfoldable pub move_by : State → Outcome

@@ -1,6 +1,5 @@
 -- What a queue means to the provider, the two laws of its room, and what a call may do to it.
-use mathlib.Core.{Path.◌≡◌, Bool.Bool, Bool.true, Bool.false, List.List, List.[], List.◌∷◌, List.◌++◌}
-use Rattle.std.specs.Prelude.{ℕ, ◌<◌, ◌≤◌}
+use Rattle.std.specs.Prelude.{◌≡◌, Bool, true, false, List, [], ◌∷◌, ◌++◌, ℕ, ◌<◌, ◌≤◌}
 
 -- A queue by its meaning: the records that it holds, as octets, oldest first; the largest length that it takes; for which lengths it has room now.
 pub record Queue : Type 0 where

@@ -1,8 +1,14 @@
 -- A provider's own part: what it was opened with, the phase of its association, what START asked for, and its transfer buffer.
-use mathlib.Core.{Bool.Bool, Bool.true, Bool.false, Bool.◌&&◌, Bool.not, List.List, List.[], List.◌∷◌, List.◌++◌}
-use Rattle.std.specs.Prelude.{ℕ}
-use Rattle.std.specs.{declared.option.Option.Option, declared.option.Option.TheVariants.Some, declared.option.Option.TheVariants.None}
-use Rattle.codec.specs.{declared.time.TimeOrder.TimeOrder, declared.time.TimeOrder.TheVariants.Before, declared.time.TimeOrder.TheVariants.Same, declared.time.TimeOrder.TheVariants.After, declared.record.Quality.Quality, declared.record.Quality.TheVariants.Good, declared.record.Quality.TheVariants.Erred, declared.record.Quality.TheVariants.Undetermined, declared.record.ProductionStatus.ProductionStatus, declared.invocation.RequestedQuality.RequestedQuality, declared.invocation.RequestedQuality.TheVariants.GoodOnly, declared.invocation.RequestedQuality.TheVariants.ErredOnly, declared.invocation.RequestedQuality.TheVariants.All, Times.Stamp, Times.compared, Records.Record, Records.frame, Records.loss, Records.status, Records.end_of_data}
+use Rattle.std.specs.Prelude.{Bool, true, false, ◌&&◌, not, List, [], ◌∷◌, ◌++◌, ℕ, Option, Some, None}
+use Rattle.codec.specs.declared.time.TimeOrder.{TimeOrder}
+use Rattle.codec.specs.declared.time.TimeOrder.TheVariants.{Before, Same, After}
+use Rattle.codec.specs.declared.record.Quality.{Quality}
+use Rattle.codec.specs.declared.record.Quality.TheVariants.{Good, Erred, Undetermined}
+use Rattle.codec.specs.declared.record.ProductionStatus.{ProductionStatus}
+use Rattle.codec.specs.declared.invocation.RequestedQuality.{RequestedQuality}
+use Rattle.codec.specs.declared.invocation.RequestedQuality.TheVariants.{GoodOnly, ErredOnly, All}
+use Rattle.codec.specs.Times.{Stamp, compared}
+use Rattle.codec.specs.Records.{Record, frame, loss, status, end_of_data}
 
 -- What a provider is opened with: how many records make a full transfer buffer (N), how many active ticks a record may wait there (L), its version, and the identifier that a BIND has to bring.
 pub record Settings : Type 0 where

@@ -1,10 +1,17 @@
 -- What holds in every history after every call.
-use mathlib.Core.{Path.◌≡◌, Logic.◌⊎◌, Bool.true, Bool.cond, List.List, List.[], List.◌∷◌, List.◌++◌, List.map}
-use Rattle.std.specs.Prelude.{ℕ, suc, ◌<◌, ◌≤◌}
-use lib.{Dec.eqb, ListN.length}
-use Rattle.std.specs.{shelf.Lists.All, shelf.Lists.kept_by, declared.option.Option.Option, declared.option.Option.TheVariants.Some, declared.option.Option.TheVariants.None, declared.result.Result.Result, declared.result.Result.TheVariants.Ok, declared.result.Result.TheVariants.Err}
-use Rattle.codec.specs.{declared.fault.Fault.Fault, Records.Record, Records.encode, RecordReading.records_in, Invocations.Request, Invocations.abort, InvocationReading.request_in}
-use Rattle.histories.specs.{Sessions.Phase, Sessions.ready, Sessions.active, Sessions.Selection, Sessions.selected, Sessions.late, Calls.Call, Calls.tick, Calls.invoke, Calls.Answer, Calls.accepted, Calls.refused, Calls.idle, Calls.waiting, Calls.sent, Calls.moved, Calls.passedOver, Calls.ended, Calls.quiet, Calls.collected, Calls.start_done, Calls.stop_done, Calls.bind_done, Calls.unbind_done, Calls.abort_done, Calls.undecodable, Calls.protocol_error, Invocations.table, Invocations.cell_protocol_error, Provider.State, Ledger.Event, Ledger.Acceptance, Ledger.Entry, Ledger.Ledger, Ledger.step, Ledger.ledger, Ledger.record_of, Ledger.acceptances, Ledger.own_acceptances, Ledger.accepted_as, Histories.Step, Histories.History}
+use Rattle.std.specs.Prelude.{◌≡◌, ◌⊎◌, true, cond, List, [], ◌∷◌, ◌++◌, map, ℕ, suc, ◌<◌, ◌≤◌, ◌==◌, length, Option, Some, None, Result, Ok, Err}
+use Rattle.std.specs.List.{AllByRecursion as All, filter}
+use Rattle.codec.specs.declared.fault.Fault.{Fault}
+use Rattle.codec.specs.Records.{Record, encode}
+use Rattle.codec.specs.RecordReading.{records_in}
+use Rattle.codec.specs.Invocations.{Request, abort}
+use Rattle.codec.specs.InvocationReading.{request_in}
+use Rattle.histories.specs.Sessions.{Phase, ready, active, Selection, selected, late}
+use Rattle.histories.specs.Calls.{Call, tick, invoke, Answer, accepted, refused, idle, waiting, sent, moved, passed_over, ended, quiet, collected, start_done, stop_done, bind_done, unbind_done, abort_done, undecodable, protocol_error}
+use Rattle.histories.specs.Invocations.{table, cell_protocol_error}
+use Rattle.histories.specs.Provider.{State}
+use Rattle.histories.specs.Ledger.{Event, Acceptance, Entry, Ledger, step, ledger, record_of, acceptances, own_acceptances, accepted_as}
+use Rattle.histories.specs.Histories.{Step, History}
 
 -- The records of PDUs, one PDU after the other, each read by the record reader's definition.
 abbrev pub join_readings : Result (List Record) Fault → Option (List Record) → Option (List Record)
@@ -53,7 +60,7 @@ fates l = l.passed ++ (acceptances l.discarded ++ (acceptances l.handed ++ (acce
 
 -- Those that bear the number n.
 abbrev pub bearing : ℕ → List Acceptance → List Acceptance
-bearing n all = kept_by (λ (a : Acceptance). eqb a.number n) all
+bearing n all = filter (λ (a : Acceptance). a.number == n) all
 
 abbrev pub acceptance : ℕ → Option Record → List Acceptance
 acceptance n None = []
@@ -85,7 +92,7 @@ told idle = 0
 told waiting = 0
 told sent = 0
 told moved = 0
-told passedOver = 0
+told passed_over = 0
 told ended = 0
 told quiet = 0
 told (collected n) = 0

@@ -1,6 +1,6 @@
 -- What the answers of the calls say, with the numbers of the refusals.
 use Rattle.std.specs.Prelude.{ℕ, Ok, Err, Result}
-use Rattle.histories.specs.Calls.{Answer, accepted, refused, idle, waiting, sent, moved, passedOver, ended, quiet, collected, start_done, stop_done, bind_done, unbind_done, abort_done, undecodable, protocol_error}
+use Rattle.histories.specs.Calls.{Answer, accepted, refused, idle, waiting, sent, moved, passed_over, ended, quiet, collected, start_done, stop_done, bind_done, unbind_done, abort_done, undecodable, protocol_error}
 use Rattle.provider.specs.declared.answer.MoveAnswer.{MoveAnswer}
 use Rattle.provider.specs.declared.answer.MoveAnswer.TheVariants as move_variants
 use Rattle.provider.specs.declared.answer.TickAnswer.{TickAnswer}
@@ -34,7 +34,7 @@ move_answer move_variants.Sent = sent
 move_answer move_variants.Waiting = waiting
 move_answer move_variants.Ended = ended
 move_answer move_variants.Moved = moved
-move_answer move_variants.PassedOver = passedOver
+move_answer move_variants.PassedOver = passed_over
 
 abbrev pub tick_answer : TickAnswer → Answer
 tick_answer tick_variants.Quiet = quiet

@@ -1,6 +1,6 @@
 -- The numbers of an account do not pass the number of answers that it has counted.
 use Rattle.std.proofs.Common.{◌≡◌, ℕ, zero, suc, ◌+◌, ◌^◌, ◌<◌, ◌≤◌, sym, subst, arith}
-use Rattle.histories.specs.Calls.{Answer, accepted, refused, idle, waiting, sent, moved, passedOver, ended, quiet, collected, start_done, stop_done, bind_done, unbind_done, abort_done, undecodable, protocol_error}
+use Rattle.histories.specs.Calls.{Answer, accepted, refused, idle, waiting, sent, moved, passed_over, ended, quiet, collected, start_done, stop_done, bind_done, unbind_done, abort_done, undecodable, protocol_error}
 use Rattle.histories.specs.Accounts.{Account, nothing, lose, counted}
 use Rattle.replay.specs.Accounts.{Fits, Becomes}
 
@@ -26,7 +26,7 @@ bounded_counted idle a n b = raised a n b
 bounded_counted waiting a n b = raised a n b
 bounded_counted sent a n b = (omega arith, omega arith, omega arith, omega arith, omega arith, omega arith)
 bounded_counted moved a n b = (omega arith, omega arith, omega arith, omega arith, omega arith, omega arith)
-bounded_counted passedOver a n b = (omega arith, omega arith, omega arith, omega arith, omega arith, omega arith)
+bounded_counted passed_over a n b = (omega arith, omega arith, omega arith, omega arith, omega arith, omega arith)
 bounded_counted ended a n b = raised a n b
 bounded_counted quiet a n b = raised a n b
 bounded_counted (collected k) a n b = (omega arith, omega arith, omega arith, omega arith, omega arith, omega arith)
