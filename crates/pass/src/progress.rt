@@ -1,9 +1,6 @@
-use libc::isatty;
 use replay::watcher::Watcher;
 use std::io;
-
-// The file descriptor of standard error.
-const STANDARD_ERROR: i32 = 2;
+use std::io::IsTerminal;
 
 // A script is long from so many lines on, and progress is shown after each such number of calls.
 const LONG: usize = 20_000;
@@ -32,7 +29,7 @@ impl Progress {
         let lines = lines_of(text);
         Ok(Progress {
             rt: rt.clone()?,
-            shown: lines >= LONG && isatty(STANDARD_ERROR) == 1,
+            shown: lines >= LONG && rt.stderr().is_terminal(),
             lines,
         })
     }
