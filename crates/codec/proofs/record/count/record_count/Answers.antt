@@ -15,14 +15,14 @@ loop-part-init c =
       after_none (count_or (records_from (length xs) xs 0)) ∙ (λ i. after 0 (count_or (records_from (fuel i) xs (sym c.new-reader.ensures.start i)))),
     )
 
-pub returns-in_err--part : goal.returns-in_err--part
-returns-in_err--part c =
+pub returns-in_err-_part : goal.returns-in_err-_part
+returns-in_err-_part c =
     let xs = c.args.pdu.now in
     let at = c.loop-part.reader.place in
     let n = c.loop-part.count in
     let inv = c.loop-part.invariant in
-    let p = err_from_is_err_and c.from-residual.result c.from-residual.ensures.1 in
-    let told = sym (c.next.ensures.answer ∙ ap (λ z. next_part z at) inv.0) ∙ ap part_if_or c.in_err--part.was in
+    let p = err_from_is_err_and c.from_residual.result c.from_residual.ensures.1 in
+    let told = sym (c.next.ensures.answer ∙ ap (λ z. next_part z at) inv.0) ∙ ap part_if_or c.in_err-_part.was in
     let here = count_fault xs at (length xs - n) _ told (λ l. omega arith) in
     p.1 ∙ ap Err p.2 ∙ sym (inv.2 ∙ ap (after n) here)
 
@@ -32,7 +32,7 @@ loop-part-smaller c =
     let at = c.loop-part.reader.place in
     let n = c.loop-part.count in
     let inv = c.loop-part.invariant in
-    let told = sym (c.next.ensures.answer ∙ ap (λ z. next_part z at) inv.0) ∙ ap part_if_or (c.in_ok--part.was ∙ ap Ok c.in-Some.is) in
+    let told = sym (c.next.ensures.answer ∙ ap (λ z. next_part z at) inv.0) ∙ ap part_if_or (c.in_ok-_part.was ∙ ap Ok c.in-Some.is) in
     let step = count_some xs at (length xs - (n + 1)) _ told in
     let cursor = c.next.ensures.cursor ∙ ap (λ z. next_cursor z at) inv.0 in
     omega (arith, step.0, step.2, cursor)
@@ -43,7 +43,7 @@ loop-part-preserved c =
     let at = c.loop-part.reader.place in
     let n = c.loop-part.count in
     let inv = c.loop-part.invariant in
-    let told = sym (c.next.ensures.answer ∙ ap (λ z. next_part z at) inv.0) ∙ ap part_if_or (c.in_ok--part.was ∙ ap Ok c.in-Some.is) in
+    let told = sym (c.next.ensures.answer ∙ ap (λ z. next_part z at) inv.0) ∙ ap part_if_or (c.in_ok-_part.was ∙ ap Ok c.in-Some.is) in
     let step = count_some xs at (length xs - (n + 1)) _ told in
     let fuel : length xs - n ≡ suc (length xs - (n + 1)) = omega (arith, step.0) in
     let cursor = c.next.ensures.cursor ∙ ap (λ z. next_cursor z at) inv.0 in (
@@ -58,5 +58,5 @@ returns c =
     let at = c.loop-part.reader.place in
     let n = c.loop-part.count in
     let inv = c.loop-part.invariant in
-    let told = sym (c.next.ensures.answer ∙ ap (λ z. next_part z at) inv.0) ∙ ap part_if_or (c.in_ok--part.was ∙ ap Ok c.in_default.is) in
+    let told = sym (c.next.ensures.answer ∙ ap (λ z. next_part z at) inv.0) ∙ ap part_if_or (c.in_ok-_part.was ∙ ap Ok c.in_default.is) in
     sym (inv.2 ∙ ap (after n) (count_none xs at (length xs - n) told) ∙ ap Ok (add-zero n))

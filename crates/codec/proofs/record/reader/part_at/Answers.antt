@@ -6,7 +6,7 @@ use Rattle.codec.proofs.record.reader.part_at.Goals as goal
 
 pub returns-in_err-content : goal.returns-in_err-content
 returns-in_err-content c =
-    let p = err_from_is_err_and c.from-residual.result c.from-residual.ensures.1 in
+    let p = err_from_is_err_and c.from_residual.result c.from_residual.ensures.1 in
     rw (p.1, p.2) (record { part = part_faulty c.args.input.now c.args.place _ c.in_err-content.ensures.content; inside = tt })
 
 pub returns : goal.returns
