@@ -35,6 +35,8 @@ APART = {
     "handed-over": "handed_over_lem",
     "protocol-error": "cell_protocol_error",
 }
+# Names that the library has too, and some files import from there.
+LIBRARY = {"and-false"}
 # The same, where the name is also one that the toolchain makes from a function: only in these crates.
 APART_IN = {"histories": {"is-active": "when_active", "is-ready": "when_ready", "not-active": "when_not_active"}}
 
@@ -88,7 +90,7 @@ def defined():
                     names.add(m[1])
                 elif m := SEVERAL.match(line):
                     names |= set(m[1].split())
-    return {n for n in names if spelled(n) != n}
+    return {n for n in names if spelled(n) != n and n not in LIBRARY}
 
 
 def pieces(path, text):

@@ -1,6 +1,6 @@
 -- What putting a record into the frame buffer comes to.
 use Rattle.std.proofs.Common.{◌≡◌, ℕ, zero, suc, ◌+◌, ◌-◌, ◌≤◌, Bool, true, false, cond, leb, List, [], ◌++◌, length, take, drop, Some, None, Ok, Err, Option, sym, refl, ap, ◌∙◌, subst, arith}
-use mathlib.Core.Bool.{and_false}
+use Rattle.std.proofs.Math.Bool.{and-false}
 use Rattle.std.proofs.lemmas.List.{take_at}
 use Rattle.std.proofs.lemmas.Bool.{and_parts, leb-true, le-leb}
 use Rattle.codec.specs.Limits.{millisecond_limit, microsecond_limit, longest_record, data_limit}
@@ -111,8 +111,8 @@ no_time d ms us e is = by (leb ms millisecond_limit) (leb us microsecond_limit) 
   where
     by : (a b : Bool) → leb ms millisecond_limit ≡ a → leb us microsecond_limit ≡ b → timely (numbers d ms us) ≡ false
     by true true x y = let ok : checked_stamp d ms us ≡ Ok (numbers d ms us) = rw (x, y) in let bad : ◌≡◌ {A = ℕ} 0 1 = cc in absurd (omega arith)
-    by true false x y = rw (x, y, and_false)
-    by false b x y = rw (x, and_false)
+    by true false x y = rw (x, y, and-false)
+    by false b x y = rw (x, and-false)
 
 pub a_time : (d ms us : ℕ) (t : Stamp) → Ok t ≡ checked_stamp d ms us → t ≡ numbers d ms us
 a_time d ms us t is = by (leb ms millisecond_limit) (leb us microsecond_limit) refl refl

@@ -1,6 +1,6 @@
 -- What a tick comes to.
 use Rattle.std.proofs.Common.{◌≡◌, suc, ◌<◌, ◌≤◌, true, false, List, [], ◌∷◌, length, refl, arith}
-use mathlib.Core.Bool.{and_false}
+use Rattle.std.proofs.Math.Bool.{and-false}
 use Rattle.std.proofs.lemmas.Bool.{lt-ltb, le-ltb}
 use Rattle.codec.specs.Records.{Record}
 use Rattle.histories.specs.Queues.{Queue}
@@ -23,7 +23,7 @@ module _ (g : Settings) (s : Session) (transport : Queue) where
 
   pub tick_none : is_filled s.buffer ≡ false → tick_by g s transport ≡ says s quiet
   unfolding tick_by
-  tick_none e = rw (e, and_false)
+  tick_none e = rw (e, and-false)
 
   module _ (on : is_active s.phase ≡ true) (filled : is_filled s.buffer ≡ true) where
     pub tick_young : suc s.age < g.latency_limit → tick_by g s transport ≡ says (aged (suc s.age) s) quiet

@@ -34,7 +34,7 @@ returns g c =
     let settings : settings_of c.if-opening-eq0.settings ≡ kept_settings n a =
     elim c.if-opening-eq0.branch [
       | then-opening-eq0 w ↦ (ap settings_of w.settings-is ∙ some.1 ∙ kept_all n a w.if-opening-eq0.true)
-      | else-opening-eq0 w ↦ (ap settings_of w.settings-is ∙ w.least_settings.ensures ∙ kept_none n a w.if-opening-eq0.false)
+      | else-opening-eq0 w ↦ (ap settings_of w.settings-is ∙ w.least-settings.ensures ∙ kept_none n a w.if-opening-eq0.false)
     ] in
     let is : s ≡ opened a f t = opened_is s a f t n number (ap settings_of c.fresh-2.ensures.settings ∙ settings) c.fresh-2.ensures.opening c.fresh-2.ensures.session
     (kept_queue g.F.Meaning c.args.frames c.check_queues-opening.new.frames check.frames) (kept_queue g.T.Meaning c.args.transport c.check_queues-opening.new.transport check.transport) in

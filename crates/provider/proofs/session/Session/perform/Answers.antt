@@ -30,9 +30,9 @@ pub returns-in-Ready-default : goal.returns-in-Ready-default
 unfolding table
 returns-in-Ready-default c = search rules
 
-pub returns-in-Ready-default·2 : goal.returns-in-Ready-default·2
+pub returns-in-Ready-default-2 : goal.returns-in-Ready-default-2
 unfolding table
-returns-in-Ready-default·2 c = search rules
+returns-in-Ready-default-2 c = search rules
 
 pub returns-in-Ready-PeerAbort : goal.returns-in-Ready-PeerAbort
 unfolding table

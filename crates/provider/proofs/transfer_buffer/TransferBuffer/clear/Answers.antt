@@ -8,7 +8,15 @@ use Rattle.provider.proofs.transfer_buffer.TransferBuffer.clear.Goals as goal
 pub invariant_of-self : goal.invariant_of-self
 invariant_of-self c =
     let none = none_held c.args.self.now.octets in
-    (c.args.self.now.size, (omega arith, (omega arith, (ap (flat_map encode) none, (ap all_well_formed none, (sym (ap length none), (sym (ap accepted_count none), tt)))))))
+    record {
+      size = c.args.self.now.size;
+      within = omega arith;
+      few = omega arith;
+      whole = ap (flat_map encode) none;
+      well = ap all_well_formed none;
+      counted = sym (ap length none);
+      told = sym (ap accepted_count none);
+    }
 
 pub returns : goal.returns
 returns c = record { none = none_held c.args.self.now.octets; count = refl }

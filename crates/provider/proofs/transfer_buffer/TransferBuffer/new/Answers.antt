@@ -9,7 +9,15 @@ use Rattle.provider.proofs.transfer_buffer.TransferBuffer.new.Goals as goal
 pub invariant_of-result : goal.invariant_of-result
 invariant_of-result c =
     let none = none_held (replicate 16488 0) in
-    (length-replicate {A = ℕ} 16488 0, (omega arith, (omega arith, (ap (flat_map encode) none, (ap all_well_formed none, (sym (ap length none), (sym (ap accepted_count none), tt)))))))
+    record {
+      size = length-replicate {A = ℕ} 16488 0;
+      within = omega arith;
+      few = omega arith;
+      whole = ap (flat_map encode) none;
+      well = ap all_well_formed none;
+      counted = sym (ap length none);
+      told = sym (ap accepted_count none);
+    }
 
 pub returns : goal.returns
 returns c = record { none = none_held (replicate 16488 0); count = refl }

@@ -17,7 +17,7 @@ invariant_of-self c =
     let b = c.args.self.now in
     let p = (pushed b.octets b.used b.count b.accepted (kept b) c.write_at.new.out c.args.octets.now (said c.args.content.now) c.accepted_weight.result
     c.requires.one c.requires.room c.write_at.ensures c.accepted_weight.ensures).0 in
-    (p.size, (p.within, (p.few, (p.whole, (p.well, (p.counted, (p.told, tt)))))))
+    record { size = p.size; within = p.within; few = p.few; whole = p.whole; well = p.well; counted = p.counted; told = p.told }
 
 pub returns : goal.returns
 returns c =
