@@ -5,10 +5,10 @@ use Rattle.codec.specs.RecordReading.{content_of}
 use Rattle.dump.specs.Lines.{content_text}
 use Rattle.dump.proofs.records.notification_text.Goals as goal
 
-pub returns-in_ok-time : goal.returns-in_ok-time
-returns-in_ok-time c =
+pub returns-in_ok-time-in-LossOfFrameSynchronization : goal.returns-in_ok-time-in-LossOfFrameSynchronization
+returns-in_ok-time-in-LossOfFrameSynchronization c =
     IfOk-weaker c.format.result _ _
-    (λ s h. h ∙ ap (λ t. codes "loss of frame synchronization time " ++ t) c.in_ok-time.ensures
+    (λ s h. h ∙ ap (λ t. codes "loss of frame synchronization time " ++ t) c.in_ok-time-in-LossOfFrameSynchronization.ensures
     ∙ ap (λ n. content_text (content_of (notified n))) (sym c.in-LossOfFrameSynchronization.is))
     c.format.ensures.ok
 

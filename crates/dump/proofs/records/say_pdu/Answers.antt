@@ -32,7 +32,7 @@ loop-next-preserved c =
       c.in-Ok.ensures.over ∙ over,
       c.loop-next.invariant.1 ∙ ap (λ l. vec_items c.loop-next.out ++ l) step
           ∙ sym (append_assoc (vec_items c.loop-next.out) line (rest (next_cursor xs at)))
-          ∙ (λ i. sym c.in_ok-say_record.ensures i ++ rest (sym cursor i)),
+          ∙ (λ i. sym c.in_ok-say_record-in-Some.ensures i ++ rest (sym cursor i)),
     )
 
 pub loop-next-init : goal.loop-next-init
