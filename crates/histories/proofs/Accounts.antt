@@ -1,16 +1,16 @@
 -- In every history the account of its answers agrees with its ledger and its state.
-use Rattle.std.proofs.Common.{◌≡◌, ℕ, zero, suc, ◌+◌, List, [], ◌∷◌, ◌++◌, map, length, Some, None, sym, refl, ap, ◌∙◌, subst, subst₂, arith, length-append}
+use Rattle.std.proofs.Common.{◌≡◌, ℕ, zero, suc, ◌+◌, List, [], ◌∷◌, ◌++◌, length, Some, None, sym, refl, ap, ◌∙◌, subst, subst₂, arith, length-append}
 use Rattle.std.proofs.lemmas.List.{length_push}
 use Rattle.std.proofs.lemmas.Bool.{cond_both}
-use Rattle.codec.specs.Records.{Record, end_of_data}
+use Rattle.codec.specs.Records.{end_of_data}
 use Rattle.histories.specs.Queues.{Queue}
 use Rattle.histories.specs.Sessions.{active, ready, unbound, is_active, to_phase, aged, holding, selecting, marked, entered}
 use Rattle.histories.specs.Calls.{Call, Answer, refused, idle, waiting, quiet, ended, start_done, stop_done, bind_done, unbind_done, abort_done, undecodable, protocol_error, Outcome}
 use Rattle.histories.specs.Invocations.{lost, after_unbind, selection_of}
 use Rattle.histories.specs.Provider.{State, taking, passing, outcome}
-use Rattle.histories.specs.Ledger.{Event, Acceptance, Entry, Ledger, blank, accept, take_oldest, pass_oldest, end_run, older, count_tick, hand_over, entry, set_pdus, lose_association, acceptances, ledger}
-use Rattle.histories.specs.Histories.{Step, History, opens, goes_on}
-use Rattle.histories.specs.Accounts.{Account, nothing, one_accepted, one_moved, one_passed, one_sent, one_collected, lose, counted, account_of_events, Agrees, AccountsAgree}
+use Rattle.histories.specs.Ledger.{Event, Acceptance, Entry, Ledger, accept, take_oldest, pass_oldest, end_run, count_tick, hand_over, entry, lose_association, acceptances, ledger}
+use Rattle.histories.specs.Histories.{History, opens, goes_on}
+use Rattle.histories.specs.Accounts.{Account, one_accepted, one_moved, one_passed, one_sent, lose, counted, account_of_events, AccountsAgree}
 use Rattle.histories.proofs.Entries.{acceptances_append, acceptances_older}
 use Rattle.histories.proofs.LedgerLaws.{took_oldest, passed_oldest, takes_oldest, passes_oldest}
 use Rattle.histories.proofs.Invariant.{Inv, Leads, led, keeping}

@@ -10,7 +10,7 @@ use Rattle.provider.specs.Opening.{Begins}
 use Rattle.provider.specs.States.{Called}
 use Rattle.replay.specs.Events.{event_of, answer_of}
 use Rattle.replay.specs.Accounts.{Becomes}
-use Rattle.replay.specs.Replays.{events_onto, events_of, Played, none, one_more, Claimed, at_opening, after_call, Replays}
+use Rattle.replay.specs.Replays.{events_onto, events_of, none, one_more, Claimed, at_opening, after_call, Replays}
 use Rattle.replay.specs.declared.answer.Answer.{Answer}
 use Rattle.replay.specs.declared.call.Call.{Call}
 use Rattle.replay.proofs.Counting.{Bounded, bounded_nothing, one_counted}

@@ -1,11 +1,9 @@
 -- Calls and answers of the code, as the definitions of histories have them.
-use Rattle.std.specs.Prelude.{ℕ, List, [], ◌∷◌, length, Ok, Err, vec_items, Result}
-use Rattle.std.specs.declared.alloc.Global.{Global}
+use Rattle.std.specs.Prelude.{ℕ, List, [], length, Ok, Err, vec_items}
 use Rattle.histories.specs.Calls as calls
 use Rattle.histories.specs.Ledger.{Event}
 use Rattle.provider.specs.Answers.{reception_answer, move_answer, tick_answer, collection_number, invocation_answer}
 use Rattle.provider.specs.States.{numbers, event}
-use Rattle.provider.specs.declared.answer.CollectionRefusal.{CollectionRefusal}
 use Rattle.replay.specs.declared.answer.Answer.{Answer}
 use Rattle.replay.specs.declared.answer.Answer.TheVariants.{Received, Moved, Ticked, Collected, Invoked}
 use Rattle.replay.specs.declared.call.Call.{Call}
