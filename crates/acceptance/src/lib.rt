@@ -8,4 +8,4 @@ pub mod answer;
 pub mod call;
 pub mod opening;
 pub mod play;
-pub mod script;
+pub mod reading;

@@ -6,7 +6,7 @@ use crate::account::say_account;
 use crate::answer::{say_answer, say_opening};
 use crate::call::ScriptCall;
 use crate::opening::ScriptOpening;
-use crate::script::{Script, read_calls, read_opening};
+use crate::reading::{Script, read_calls, read_opening};
 use packed::packed::Packed;
 use piles::memory::PileMemory;
 use piles::nesting::play_on_pile;

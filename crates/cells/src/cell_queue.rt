@@ -2,8 +2,8 @@ ghost use Rattle.std.specs.Prelude.{◌<◌, ◌≤◌, vec_capacity};
 
 use crate::cell::Cell;
 
+pub mod as_queue;
 pub mod calls;
-pub mod queue;
 
 // Records in the cells of a memory board, oldest first.
 #[derive(Drop)]

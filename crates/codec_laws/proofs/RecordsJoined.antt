@@ -1,6 +1,6 @@
 -- The records of a PDU: reading what was joined, and joining what was read.
 use Rattle.std.proofs.Common.{◌≡◌, ℕ, zero, suc, ◌+◌, ◌≤◌, leb, List, [], ◌∷◌, ◌++◌, length, drop, Ok, Err, Result, sym, refl, ap, ◌∙◌, subst, ⊎_elim, append_assoc, arith, length-append}
-use Rattle.std.specs.List.{flat_map, AllByRecursion as All}
+use Rattle.std.specs.List.{flat_map, AllByRecursion}
 use Rattle.std.proofs.lemmas.Bool.{le-leb, lt-leb, leb-true}
 use Rattle.std.proofs.lemmas.List.{drop_all, length-drop}
 use Rattle.codec.specs.Octets.{Octets}
@@ -17,7 +17,7 @@ fewer [] = omega arith
 fewer (r ∷ rs) = omega (arith, encode_some r, fewer rs, length-append (encode r) (flat_map encode rs))
 
 -- records that stand from a place to the end read as themselves
-pub records_from_lem : (rs : List Record) (n : ℕ) (ys : List ℕ) (at : ℕ) → All WellFormed rs → length rs ≤ n → drop at ys ≡ flat_map encode rs → records_from n ys at ≡ Ok rs
+pub records_from_lem : (rs : List Record) (n : ℕ) (ys : List ℕ) (at : ℕ) → AllByRecursion WellFormed rs → length rs ≤ n → drop at ys ≡ flat_map encode rs → records_from n ys at ≡ Ok rs
 records_from_lem [] zero ys at g f e = refl
 records_from_lem [] (suc n) ys at g f e = let t = le-leb (length ys) at (omega (arith, length-drop at ys, ap length e)) in rw t
 records_from_lem (r ∷ rs) zero ys at g f e = absurd (omega arith)
@@ -29,7 +29,7 @@ records_from_lem (r ∷ rs) (suc n) ys at g f e =
     rw (t, one, more)
 
 -- reading the joined octets of well-formed records gives the records
-pub records_written : (rs : List Record) → All WellFormed rs → records_in (flat_map encode rs) ≡ Ok rs
+pub records_written : (rs : List Record) → AllByRecursion WellFormed rs → records_in (flat_map encode rs) ≡ Ok rs
 unfolding records_in
 records_written rs g = records_from_lem rs (length (flat_map encode rs)) (flat_map encode rs) 0 g (fewer rs) refl
 
@@ -39,7 +39,7 @@ prepended_ok r (Err e) {rs} h = err_is_not_ok e rs h
 
 module _ (xs : List ℕ) (octets : Octets xs) where
   abbrev Whole : ℕ → List Record → Type 0
-  Whole at rs = All WellFormed rs × (drop at xs ≡ flat_map encode rs)
+  Whole at rs = AllByRecursion WellFormed rs × (drop at xs ≡ flat_map encode rs)
 
   records_whole : (n at : ℕ) (rs : List Record) → length xs ≤ at + n → records_from n xs at ≡ Ok rs → Whole at rs
   records_whole zero at rs f h = subst (Whole at) (same_ok h) (tt, drop_all at xs (omega arith))
@@ -55,11 +55,11 @@ module _ (xs : List ℕ) (octets : Octets xs) where
       (cond_cases (leb (length xs) at) _ _ h)
 
 -- what reads as records is well formed, and the joined octets of the records are the input
-pub records_read : (xs : List ℕ) (rs : List Record) → Octets xs → records_in xs ≡ Ok rs → All WellFormed rs × (flat_map encode rs ≡ xs)
+pub records_read : (xs : List ℕ) (rs : List Record) → Octets xs → records_in xs ≡ Ok rs → AllByRecursion WellFormed rs × (flat_map encode rs ≡ xs)
 unfolding records_in
 records_read xs rs octets h = let w = records_whole xs octets (length xs) 0 rs (omega arith) h in (w.0, sym w.1)
 
-all_joined : (rs ss : List Record) → All WellFormed rs → All WellFormed ss → All WellFormed (rs ++ ss)
+all_joined : (rs ss : List Record) → AllByRecursion WellFormed rs → AllByRecursion WellFormed ss → AllByRecursion WellFormed (rs ++ ss)
 all_joined [] ss g h = h
 all_joined (r ∷ rs) ss g h = (g.0, all_joined rs ss g.1 h)
 

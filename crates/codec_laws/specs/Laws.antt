@@ -1,6 +1,6 @@
 -- The laws of times, records and invocations, in words of the subject.
 use Rattle.std.specs.Prelude.{◌≡◌, ℕ, ◌<◌, ◌≤◌, ◌⊎◌, List, [], ◌∷◌, length, take, Ok, Err}
-use Rattle.std.specs.List.{flat_map, AllByRecursion as All}
+use Rattle.std.specs.List.{flat_map, AllByRecursion}
 use Rattle.codec.specs.Octets.{Octets}
 use Rattle.codec.specs.Times.{Stamp, compared, checked_stamp, stamp_octets}
 use Rattle.codec.specs.Fields.{fault}
@@ -21,11 +21,11 @@ use Rattle.codec.specs.declared.time.TimeOrder.TheVariants.{Before, Same, After}
 
 -- Reading the joined octets of well-formed records gives those records.
 abbrev pub RecordsReadBack : Type 0
-RecordsReadBack = (rs : List Record) → All WellFormed rs → records_in (flat_map encode rs) ≡ Ok rs
+RecordsReadBack = (rs : List Record) → AllByRecursion WellFormed rs → records_in (flat_map encode rs) ≡ Ok rs
 
 -- What reads as records is well formed, and the joined octets of the records are the input.
 abbrev pub RecordsWriteBack : Type 0
-RecordsWriteBack = (xs : List ℕ) (rs : List Record) → Octets xs → records_in xs ≡ Ok rs → All WellFormed rs × (flat_map encode rs ≡ xs)
+RecordsWriteBack = (xs : List ℕ) (rs : List Record) → Octets xs → records_in xs ≡ Ok rs → AllByRecursion WellFormed rs × (flat_map encode rs ≡ xs)
 
 -- The reader hands out exactly the records of the PDU, each as its octets at its place, or stops at the fault of the PDU.
 abbrev pub ReaderHandsOutRecords : Type 0

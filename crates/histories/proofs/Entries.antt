@@ -1,6 +1,6 @@
 -- What holds of lists of accepted records and entries: order of acceptance, whose entries they are, what is due.
 use Rattle.std.proofs.Common.{◌≡◌, ℕ, zero, suc, ◌≤◌, Bool, true, false, cond, eqb, List, [], ◌∷◌, ◌++◌, map, length, Some, None, filter, Option, sym, refl, ap, ◌∙◌, subst, append_assoc, append-nil, arith}
-use Rattle.std.specs.List.{AllByRecursion as All}
+use Rattle.std.specs.List.{AllByRecursion}
 use Rattle.std.proofs.lemmas.List.{length_push}
 use Rattle.std.proofs.ByRecursion.{All-push, All-weaker}
 use Rattle.std.proofs.lemmas.Bool.{cond-true, cond-false, ne_eqb, eq-eqb}
@@ -41,7 +41,7 @@ Genuine rs a = accepted_as rs a.number ≡ Some a.value
 
 -- accepted records in order of acceptance
 abbrev pub Line : List Record → List Acceptance → Type 0
-Line rs xs = Rises 0 xs (length rs) × All (Genuine rs) xs
+Line rs xs = Rises 0 xs (length rs) × AllByRecursion (Genuine rs) xs
 
 accepted_more : (rs : List Record) (r x : Record) (n : ℕ) → accepted_as rs n ≡ Some x → accepted_as (rs ++ r ∷ []) n ≡ Some x
 accepted_more [] r x n e = let z : ◌≡◌ {A = ℕ} 0 1 = cc in absurd (omega arith)
@@ -52,7 +52,7 @@ accepted_last : (rs : List Record) (r : Record) → accepted_as (rs ++ r ∷ [])
 accepted_last [] r = refl
 accepted_last (y ∷ rs) r = accepted_last rs r
 
-pub genuine_push : (rs : List Record) (r : Record) (xs : List Acceptance) → All (Genuine rs) xs → All (Genuine (rs ++ r ∷ [])) (xs ++ record { number = length rs; value = r } ∷ [])
+pub genuine_push : (rs : List Record) (r : Record) (xs : List Acceptance) → AllByRecursion (Genuine rs) xs → AllByRecursion (Genuine (rs ++ r ∷ [])) (xs ++ record { number = length rs; value = r } ∷ [])
 genuine_push rs r xs g =
     All-push (Genuine (rs ++ r ∷ [])) xs (record { number = length rs; value = r })
     (All-weaker (Genuine rs) (Genuine (rs ++ r ∷ [])) (λ x h. accepted_more rs r x.value x.number h) xs g)
@@ -63,7 +63,7 @@ line_push rs r xs l =
     let a : Acceptance = record { number = length rs; value = r } in
     (subst (λ (n : ℕ). Rises 0 (xs ++ a ∷ []) n) (omega (arith, length_push rs r)) (rises_push 0 (length rs) xs a refl l.0), genuine_push rs r xs l.1)
 
-all_cut : {X : Type 0} (P : X → Type 0) (xs ys zs : List X) → All P (xs ++ (ys ++ zs)) → All P (xs ++ zs)
+all_cut : {X : Type 0} (P : X → Type 0) (xs ys zs : List X) → AllByRecursion P (xs ++ (ys ++ zs)) → AllByRecursion P (xs ++ zs)
 all_cut P [] [] zs a = a
 all_cut P [] (y ∷ ys) zs a = all_cut P [] ys zs a.1
 all_cut P (x ∷ xs) ys zs a = (a.0, all_cut P xs ys zs a.1)
@@ -71,11 +71,11 @@ all_cut P (x ∷ xs) ys zs a = (a.0, all_cut P xs ys zs a.1)
 pub line_cut : (rs : List Record) (xs ys zs : List Acceptance) → Line rs (xs ++ (ys ++ zs)) → Line rs (xs ++ zs)
 line_cut rs xs ys zs l = (rises_cut 0 (length rs) xs ys zs l.0, all_cut (Genuine rs) xs ys zs l.1)
 
-pub all_front : {X : Type 0} (P : X → Type 0) (xs ys : List X) → All P (xs ++ ys) → All P xs
+pub all_front : {X : Type 0} (P : X → Type 0) (xs ys : List X) → AllByRecursion P (xs ++ ys) → AllByRecursion P xs
 all_front P [] ys a = tt
 all_front P (x ∷ xs) ys a = (a.0, all_front P xs ys a.1)
 
-pub all_back : {X : Type 0} (P : X → Type 0) (xs ys : List X) → All P (xs ++ ys) → All P ys
+pub all_back : {X : Type 0} (P : X → Type 0) (xs ys : List X) → AllByRecursion P (xs ++ ys) → AllByRecursion P ys
 all_back P [] ys a = a
 all_back P (x ∷ xs) ys a = all_back P xs ys a.1
 
@@ -107,7 +107,7 @@ abbrev pub Upto : ℕ → Entry → Type 0
 Upto n e = e.run ≤ n
 
 -- a run that has just begun has put nothing in
-pub own_none : (n : ℕ) (xs : List Entry) → All (Upto n) xs → own_acceptances (suc n) xs ≡ []
+pub own_none : (n : ℕ) (xs : List Entry) → AllByRecursion (Upto n) xs → own_acceptances (suc n) xs ≡ []
 own_none n [] a = refl
 own_none n (x ∷ xs) a =
     let e : own_content (suc n) x ≡ [] = cond-false (eqb x.run (suc n)) _ _ (ne_eqb x.run (suc n) (λ h. omega arith)) in
@@ -138,7 +138,7 @@ cond_front : (b : Bool) (a : Acceptance) (xs ys : List Acceptance) → cond b (a
 cond_front true a xs ys = refl
 cond_front false a xs ys = refl
 
-pub due_append : (c : Selection) (xs ys : List Acceptance) → All (InTime c) xs → due c (xs ++ ys) ≡ filter (is_selected c) xs ++ due c ys
+pub due_append : (c : Selection) (xs ys : List Acceptance) → AllByRecursion (InTime c) xs → due c (xs ++ ys) ≡ filter (is_selected c) xs ++ due c ys
 due_append c [] ys a = refl
 due_append c (x ∷ xs) ys a =
     cond-false (late c x.value) _ _ a.0
@@ -150,17 +150,17 @@ abbrev pub WellAccepted : Acceptance → Type 0
 WellAccepted a = WellFormed a.value × (is_accepted a.value ≡ true)
 
 abbrev pub WellEntered : Entry → Type 0
-WellEntered e = All WellAccepted (content_of e.content)
+WellEntered e = AllByRecursion WellAccepted (content_of e.content)
 
-well_content : (o : Option Acceptance) → All WellAccepted (content_of o) → WellFormed (record_of_content o)
+well_content : (o : Option Acceptance) → AllByRecursion WellAccepted (content_of o) → WellFormed (record_of_content o)
 well_content None w = tt
 well_content (Some a) w = w.0.0
 
-pub well_records : (es : List Entry) → All WellEntered es → All WellFormed (map record_of es)
+pub well_records : (es : List Entry) → AllByRecursion WellEntered es → AllByRecursion WellFormed (map record_of es)
 well_records [] w = tt
 well_records (e ∷ es) w = (well_content e.content w.0, well_records es w.1)
 
-pub well_older : (es : List Entry) → All WellEntered es → All WellEntered (map older es)
+pub well_older : (es : List Entry) → AllByRecursion WellEntered es → AllByRecursion WellEntered (map older es)
 well_older [] w = tt
 well_older (e ∷ es) w = (w.0, well_older es w.1)
 
@@ -169,11 +169,11 @@ records_older [] = refl
 records_older (e ∷ es) = ap (λ (r : List Record). record_of e ∷ r) (records_older es)
 
 -- how many accepted records entries have
-count_content : (o : Option Acceptance) (rs : List Record) (xs : List Acceptance) → All WellAccepted (content_of o) → length (filter is_accepted rs) ≡ length xs
+count_content : (o : Option Acceptance) (rs : List Record) (xs : List Acceptance) → AllByRecursion WellAccepted (content_of o) → length (filter is_accepted rs) ≡ length xs
     → length (filter is_accepted (record_of_content o ∷ rs)) ≡ length (content_of o ++ xs)
 count_content None rs xs w h = h
 count_content (Some a) rs xs w h = ap (λ (x : List Record). length x) (cond-true (is_accepted a.value) _ _ w.0.1) ∙ ap suc h
 
-pub count_acceptances : (es : List Entry) → All WellEntered es → length (filter is_accepted (map record_of es)) ≡ length (acceptances es)
+pub count_acceptances : (es : List Entry) → AllByRecursion WellEntered es → length (filter is_accepted (map record_of es)) ≡ length (acceptances es)
 count_acceptances [] w = refl
 count_acceptances (e ∷ es) w = count_content e.content (map record_of es) (acceptances es) w.0 (count_acceptances es w.1)

@@ -1,6 +1,6 @@
 -- Whatever a call comes to, the ledger leaves every accepted record one fate.
 use Rattle.std.proofs.Common.{◌≡◌, ℕ, zero, suc, ◌+◌, ◌≤◌, Bool, true, cond, eqb, ltb, List, [], ◌∷◌, ◌++◌, map, length, take, drop, Some, None, Option, sym, refl, ap, ◌∙◌, subst, append_assoc, append-nil, arith}
-use Rattle.std.specs.List.{AllByRecursion as All}
+use Rattle.std.specs.List.{AllByRecursion}
 use Rattle.std.proofs.lemmas.List.{length_push, length-append, take-append-drop}
 use Rattle.std.proofs.lemmas.List.Elements.{filter-append}
 use Rattle.std.proofs.ByRecursion.{All-append, all_kept_by, kept_by_passes}
@@ -25,7 +25,7 @@ times_append n xs ys = ap (λ (z : List Acceptance). length z) (filter-append (�
 
 -- each number of acceptance is borne once, by the record accepted under it
 abbrev pub Counted : List Record → List Acceptance → Type 0
-Counted rs xs = ((n : ℕ) → times n xs ≡ cond (ltb n (length rs)) 1 0) × All (Genuine rs) xs
+Counted rs xs = ((n : ℕ) → times n xs ≡ cond (ltb n (length rs)) 1 0) × AllByRecursion (Genuine rs) xs
 
 swap : (rs : List Record) (xs ys zs us : List Acceptance) → Counted rs (xs ++ (ys ++ (zs ++ us))) → Counted rs (xs ++ (zs ++ (ys ++ us)))
 swap rs xs ys zs us c =
@@ -177,7 +177,7 @@ past [] n h = refl
 past (r ∷ rs) zero h = absurd (omega arith)
 past (r ∷ rs) (suc n) h = past rs n (omega arith)
 
-alone : (rs : List Record) (n : ℕ) (xs : List Acceptance) → length xs ≡ cond (ltb n (length rs)) 1 0 → All (λ (a : Acceptance). eqb a.number n ≡ true) xs → All (Genuine rs) xs
+alone : (rs : List Record) (n : ℕ) (xs : List Acceptance) → length xs ≡ cond (ltb n (length rs)) 1 0 → AllByRecursion (λ (a : Acceptance). eqb a.number n ≡ true) xs → AllByRecursion (Genuine rs) xs
     → xs ≡ acceptance n (accepted_as rs n)
 alone rs n [] c a g =
     let far : length rs ≤ n = cond_both (ltb n (length rs)) 1 0 (λ (x : ℕ). 0 ≡ x → length rs ≤ n) (λ _ z. absurd (omega arith)) (λ e _. ltb-false n (length rs) e) c in

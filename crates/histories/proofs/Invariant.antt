@@ -1,7 +1,7 @@
 -- How the provider and its queues stand to the ledger, and how a call's outcome is held to it.
 use Rattle.std.proofs.Common.{◌≡◌, ℕ, ◌*◌, ◌<◌, ◌≤◌, List, ◌++◌, map, length, Some, sym, subst₂}
 use mathlib.Core.Path.{subst₃}
-use Rattle.std.specs.List.{AllByRecursion as All}
+use Rattle.std.specs.List.{AllByRecursion}
 use Rattle.codec.specs.Limits.{longest_record}
 use Rattle.codec.specs.Records.{Record}
 use Rattle.histories.specs.Queues.{Queue, After}
@@ -21,19 +21,19 @@ Within n e = e.ticks ≤ n
 -- the frame buffer and the untaken
 pub record Framed (held : List (List ℕ)) (untaken : List Acceptance) : Type 0 where
   pub are : held ≡ map octets_of untaken
-  pub well : All WellAccepted untaken
+  pub well : AllByRecursion WellAccepted untaken
 
 -- the transfer buffer and the pending; below the limit the age bounds every entry's ticks
 pub record Buffered (g : Settings) (buffer : List Record) (age : ℕ) (pending : List Entry) : Type 0 where
   pub are : buffer ≡ map record_of pending
-  pub well : All WellEntered pending
+  pub well : AllByRecursion WellEntered pending
   pub few : length buffer ≤ g.buffer_size
-  pub ages : age < g.latency_limit → All (Within age) pending
+  pub ages : age < g.latency_limit → AllByRecursion (Within age) pending
 
 -- PDUs, collected and waiting, and what is handed over
 pub record Carried (pdus held : List (List ℕ)) (handed : List Entry) : Type 0 where
   pub are : records_of (pdus ++ held) ≡ Some (map record_of handed)
-  pub well : All WellEntered handed
+  pub well : AllByRecursion WellEntered handed
 
 -- the settings and the transport
 pub record Fitting (g : Settings) (transport : Queue) : Type 0 where

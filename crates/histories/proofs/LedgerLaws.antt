@@ -1,6 +1,6 @@
 -- What a ledger keeps by itself: order of acceptance, and what the run that lasts has taken.
 use Rattle.std.proofs.Common.{◌≡◌, ℕ, suc, true, false, ◌⊎◌, List, [], ◌∷◌, ◌++◌, map, length, take, drop, Some, None, filter, sym, refl, ap, ◌∙◌, subst, inl, inr, append_assoc, append-nil, arith}
-use Rattle.std.specs.List.{AllByRecursion as All}
+use Rattle.std.specs.List.{AllByRecursion}
 use Rattle.std.proofs.lemmas.Bool.{cond-true, cond-false, cond_both, false≢true}
 use Rattle.std.proofs.lemmas.List.Elements.{filter-append}
 use Rattle.std.proofs.ByRecursion.{All-append, All-push, All-weaker}
@@ -18,12 +18,12 @@ entries l = l.handed ++ l.pending
 pub record Taking (l : Ledger) : Type 0 where
   pub taken : List Acceptance
   pub offered : l.run.offered ≡ taken ++ l.untaken
-  pub in_time : All (InTime l.run.selection) taken
+  pub in_time : AllByRecursion (InTime l.run.selection) taken
   pub entered : filter (is_selected l.run.selection) taken ≡ own_acceptances l.run.number (entries l)
 
 pub record Lawful (l : Ledger) : Type 0 where
   pub line : Line l.received (acceptances (entries l) ++ l.untaken)
-  pub runs : All (Upto l.run.number) (entries l)
+  pub runs : AllByRecursion (Upto l.run.number) (entries l)
   pub at_end : l.end_mark ≡ true → LateFirst l.run.selection l.untaken
   pub taking : l.phase ≡ active → Taking l
 
@@ -77,7 +77,7 @@ module _ (l : Ledger) (a : Acceptance) (more : List Acceptance) (u : l.untaken �
         line = subst (λ (x : List Acceptance). Line l.received x)
             (sym (ap (λ (x : List Entry). acceptances x ++ more) g ∙ ap (λ (x : List Acceptance). x ++ more) (acceptances_append (entries l) (f ∷ [])) ∙ append_assoc (acceptances (entries l)) (a ∷ []) more))
             was_line;
-        runs = subst (λ (x : List Entry). All (Upto l.run.number) x) (sym g) (All-push (Upto l.run.number) (entries l) f k.runs (omega arith));
+        runs = subst (λ (x : List Entry). AllByRecursion (Upto l.run.number) x) (sym g) (All-push (Upto l.run.number) (entries l) f k.runs (omega arith));
         at_end = λ e. absurd (false≢true (sym unmarked ∙ e));
         taking = λ e. let t = k.taking e in record {
           taken = t.taken ++ a ∷ [];
@@ -115,7 +115,7 @@ module _ (l : Ledger) (a : Acceptance) (more : List Acceptance) (u : l.untaken �
         line = subst (λ (x : List Acceptance). Line l.received (x ++ l.untaken))
             (sym (ap (λ (x : List Entry). acceptances x) g ∙ acceptances_append (entries l) (f ∷ []) ∙ append-nil (acceptances (entries l))))
             k.line;
-        runs = subst (λ (x : List Entry). All (Upto l.run.number) x) (sym g) (All-push (Upto l.run.number) (entries l) f k.runs (omega arith));
+        runs = subst (λ (x : List Entry). AllByRecursion (Upto l.run.number) x) (sym g) (All-push (Upto l.run.number) (entries l) f k.runs (omega arith));
         at_end = λ e. subst (λ (x : List Acceptance). LateFirst l.run.selection x) (sym u) is-late;
         taking = λ e. let t = k.taking e in record {
           taken = t.taken;
@@ -128,7 +128,7 @@ module _ (l : Ledger) (a : Acceptance) (more : List Acceptance) (u : l.untaken �
         };
       }
 
-runs_older : (n : ℕ) (xs : List Entry) → All (Upto n) xs → All (Upto n) (map older xs)
+runs_older : (n : ℕ) (xs : List Entry) → AllByRecursion (Upto n) xs → AllByRecursion (Upto n) (map older xs)
 runs_older n [] a = tt
 runs_older n (x ∷ xs) a = (a.0, runs_older n xs a.1)
 
@@ -154,7 +154,7 @@ lawful_hand l k =
     let g : entries l ≡ entries l ++ [] = sym (append-nil (entries l)) in
     record {
       line = subst (λ (x : List Entry). Line l.received (acceptances x ++ l.untaken)) g k.line;
-      runs = subst (λ (x : List Entry). All (Upto l.run.number) x) g k.runs;
+      runs = subst (λ (x : List Entry). AllByRecursion (Upto l.run.number) x) g k.runs;
       at_end = k.at_end;
       taking = λ e. let t = k.taking e in record { taken = t.taken; offered = t.offered; in_time = t.in_time; entered = t.entered ∙ ap (λ (x : List Entry). own_acceptances l.run.number x) g };
     }
@@ -190,7 +190,7 @@ lawful_lose l k =
     record {
       line = subst (λ (x : List Entry). Line l.received (acceptances x ++ l.untaken)) g
           (line_cut l.received (acceptances l.handed) (acceptances l.pending) l.untaken (handed_line l k));
-      runs = subst (λ (x : List Entry). All (Upto l.run.number) x) g (all_front (Upto l.run.number) l.handed l.pending k.runs);
+      runs = subst (λ (x : List Entry). AllByRecursion (Upto l.run.number) x) g (all_front (Upto l.run.number) l.handed l.pending k.runs);
       at_end = k.at_end;
       taking = λ e. absurd (off unbound refl e);
     }
@@ -200,7 +200,7 @@ lawful_lose l k =
 pub in_order : (l : Ledger) → Lawful l → RisesFrom 0 (acceptances l.handed)
 in_order l k = rises_front 0 (length l.received) (acceptances l.handed) (acceptances l.pending ++ l.untaken) (handed_line l k).0
 
-pub genuine : (l : Ledger) → Lawful l → All (Genuine l.received) (acceptances l.handed)
+pub genuine : (l : Ledger) → Lawful l → AllByRecursion (Genuine l.received) (acceptances l.handed)
 genuine l k = all_front (Genuine l.received) (acceptances l.handed) (acceptances l.pending ++ l.untaken) (handed_line l k).1
 
 nothing_due : (l : Ledger) → Lawful l → (l.end_mark ≡ true) ⊎ (l.untaken ≡ []) → due l.run.selection l.untaken ≡ []

@@ -1,6 +1,6 @@
 -- How long PDUs are, and how they read one after the other.
 use Rattle.std.proofs.Common.{◌≡◌, ℕ, ◌*◌, ◌≤◌, List, [], ◌∷◌, ◌++◌, length, Some, None, Ok, Err, Option, Result, sym, refl, ap, ◌∙◌, append_assoc, append-nil, arith}
-use Rattle.std.specs.List.{AllByRecursion as All}
+use Rattle.std.specs.List.{AllByRecursion}
 use Rattle.std.proofs.lemmas.List.{length-append}
 use Rattle.codec.specs.declared.fault.Fault.{Fault}
 use Rattle.codec.specs.Limits.{longest_record}
@@ -11,7 +11,7 @@ use Rattle.histories.specs.Delivery.{transfer_pdu}
 use Rattle.histories.specs.Statements.{join_readings, records_of}
 
 -- a PDU has an octet for each of its records, and at most as many as so many longest records
-pub pdu_bounds : (rs : List Record) → All WellFormed rs → (length rs ≤ length (transfer_pdu rs)) × (length (transfer_pdu rs) ≤ length rs * longest_record)
+pub pdu_bounds : (rs : List Record) → AllByRecursion WellFormed rs → (length rs ≤ length (transfer_pdu rs)) × (length (transfer_pdu rs) ≤ length rs * longest_record)
 pdu_bounds [] w = (omega arith, omega arith)
 pdu_bounds (r ∷ rs) w =
     let rest = pdu_bounds rs w.1 in

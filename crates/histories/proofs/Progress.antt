@@ -1,6 +1,6 @@
 -- Moves use up what is untaken, and ticks then send what is pending.
 use Rattle.std.proofs.Common.{◌≡◌, ℕ, zero, suc, ◌+◌, ◌*◌, ◌<◌, ◌≤◌, true, false, cond, ◌&&◌, eqb, leb, ◌⊎◌, List, [], ◌∷◌, ◌++◌, map, length, replicate, None, sym, refl, ap, ◌∙◌, subst, subst₂, inl, inr, arith}
-use Rattle.std.specs.List.{AllByRecursion as All}
+use Rattle.std.specs.List.{AllByRecursion}
 use Rattle.std.proofs.lemmas.List.{length-map, nil_from_length}
 use Rattle.std.proofs.ByRecursion.{All-append}
 use Rattle.std.proofs.lemmas.Bool.{cond_both, cond-true, cond-false, and_parts, and_cases, or_cases, both_ways, eqb-true, ne_eqb, ltb-true}
@@ -49,7 +49,7 @@ abbrev Of : (Settings → Session → Queue → Type 0) → State → Type 0
 Of P s = P s.settings s.session s.frames
 
 -- the frame buffer's oldest is a record
-is_record : (us : List Acceptance) → All WellAccepted us → oldest (map octets_of us) ≡ None → map octets_of us ≡ []
+is_record : (us : List Acceptance) → AllByRecursion WellAccepted us → oldest (map octets_of us) ≡ None → map octets_of us ≡ []
 is_record [] w e = refl
 is_record (a ∷ more) w e = let back = one_record_written a.value w.0.0 in let z : ◌≡◌ {A = ℕ} 0 1 = cc in absurd (omega arith)
 

@@ -1,6 +1,6 @@
 -- Moves, ticks and collections leave the ledger's run as it is.
 use Rattle.std.proofs.Common.{◌≡◌, ℕ, zero, suc, List, replicate, sym, refl, ap, ◌∙◌, subst}
-use Rattle.std.specs.List.{AllByRecursion as All}
+use Rattle.std.specs.List.{AllByRecursion}
 use Rattle.histories.specs.Calls.{Call, move, tick, collect, Outcome}
 use Rattle.histories.specs.Provider.{State}
 use Rattle.histories.specs.Ledger.{Ledger, Event, ledger, step}
@@ -51,11 +51,11 @@ module _ (s : State) (l : Ledger) where
 step_run : {es : List Event} {s s' : State} (e : Event) → History es s → Step s e s' → Inner e.call → (step (ledger es) e).run ≡ (ledger es).run
 step_run {es} {s} {s'} e h st q = ap (λ (x : Ledger). x.run) (booked (ledger es) s s' e (history_inv h) st) ∙ inner s (ledger es) (does.does s e.call).1 q
 
-pub all_replicate : {X : Type 0} (P : X → Type 0) (n : ℕ) (x : X) → P x → All P (replicate n x)
+pub all_replicate : {X : Type 0} (P : X → Type 0) (n : ℕ) (x : X) → P x → AllByRecursion P (replicate n x)
 all_replicate P zero x p = tt
 all_replicate P (suc n) x p = (p, all_replicate P n x p)
 
-pub served_run : {cs : List Call} {es es' : List Event} {s s' : State} → Served cs es s es' s' → History es s → All Inner cs → (ledger es').run ≡ (ledger es).run
+pub served_run : {cs : List Call} {es es' : List Event} {s s' : State} → Served cs es s es' s' → History es s → AllByRecursion Inner cs → (ledger es').run ≡ (ledger es).run
 served_run rests h q = refl
 served_run (collects n e is st more) h q = served_run more (goes_on e h st) q ∙ step_run e h st (subst (λ (c : Call). Inner c) (sym is) (collections n))
 served_run (calls e empty st more) h q = served_run more (goes_on e h st) q.1 ∙ step_run e h st q.0

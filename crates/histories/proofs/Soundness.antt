@@ -1,6 +1,6 @@
 -- Every history keeps the invariant, and so every statement holds of it.
 use Rattle.std.proofs.Common.{◌≡◌, ℕ, suc, ◌*◌, ◌<◌, Bool, true, false, cond, ◌&&◌, leb, List, [], length, sym, refl, ap, ◌∙◌, subst, ap₂, arith}
-use Rattle.std.specs.List.{AllByRecursion as All}
+use Rattle.std.specs.List.{AllByRecursion}
 use Rattle.std.proofs.lemmas.List.{nil_from_length}
 use Rattle.std.proofs.lemmas.Bool.{and_parts, leb-true, eqb-true}
 use Rattle.codec.specs.Limits.{longest_record}
@@ -96,7 +96,7 @@ sound {es} {s} h =
 
 ticks_punctual : (l : Ledger) (s s' : State) (e : Event) → Inv l s → Step s e s' → Punctual s e (step l e)
 ticks_punctual l s s' e i st is-tick on empty =
-    subst (λ (x : Ledger). All (λ (y : Entry). y.ticks < s.settings.latency_limit) x.pending)
+    subst (λ (x : Ledger). AllByRecursion (λ (y : Entry). y.ticks < s.settings.latency_limit) x.pending)
     (sym (ap (λ (x : Event). step l x) (as_decided s s' e st ∙ ap (λ (c : Call). event c (outcome s c)) is-tick) ∙ books_tick s l (sym i.phase) (ticks s).1))
     (punctual l s i empty on (ticks s).1)
 

@@ -1,6 +1,6 @@
 -- Whatever a call comes to, the invariant is kept.
 use Rattle.std.proofs.Common.{◌≡◌, ℕ, suc, ◌*◌, ◌<◌, ◌≤◌, Bool, true, false, ◌&&◌, List, [], ◌∷◌, ◌++◌, map, length, drop, Some, None, Ok, Option, sym, refl, ap, ◌∙◌, subst, inl, inr, append_assoc, arith}
-use Rattle.std.specs.List.{AllByRecursion as All}
+use Rattle.std.specs.List.{AllByRecursion}
 use Rattle.std.proofs.lemmas.List.{map_push, map-append, length-map, length_push, nil_from_length}
 use Rattle.std.proofs.ByRecursion.{All-push, All-append}
 use Rattle.std.proofs.lemmas.Bool.{ltb-true, true≢false, cond-true, cond-false, cond_both, and_cases}
@@ -28,11 +28,11 @@ use Rattle.histories.proofs.Outcomes.{admitting, sending, Looks, Receives, Moves
 use Rattle.histories.proofs.Outcomes as does
 
 -- one entry more in the transfer buffer
-enter_ages : (limit age : ℕ) (rs : List Record) (es : List Entry) (f : Entry) → rs ≡ map record_of es → f.ticks ≡ 0 → (age < limit → All (Within age) es)
-    → age_at_entry rs age < limit → All (Within (age_at_entry rs age)) (es ++ f ∷ [])
+enter_ages : (limit age : ℕ) (rs : List Record) (es : List Entry) (f : Entry) → rs ≡ map record_of es → f.ticks ≡ 0 → (age < limit → AllByRecursion (Within age) es)
+    → age_at_entry rs age < limit → AllByRecursion (Within (age_at_entry rs age)) (es ++ f ∷ [])
 enter_ages limit age [] es f are new ages h =
     let none : length es ≡ 0 = sym (length-map es record_of) ∙ ap (λ (x : List Record). length x) (sym are) in
-    subst (λ (x : List Entry). All (Within 0) (x ++ f ∷ [])) (sym (nil_from_length es none)) (omega arith, tt)
+    subst (λ (x : List Entry). AllByRecursion (Within 0) (x ++ f ∷ [])) (sym (nil_from_length es none)) (omega arith, tt)
 enter_ages limit age (r ∷ rs) es f are new ages h = All-push (Within age) es f (ages h) (omega arith)
 
 enter : (g : Settings) (rs : List Record) (age : ℕ) (es : List Entry) (f : Entry) → Buffered g rs age es → f.ticks ≡ 0 → WellEntered f → (length rs ≡ g.buffer_size → ⊥)
@@ -47,7 +47,7 @@ enter g rs age es f b new well space =
       ages = enter_ages g.latency_limit age rs es f b.are new b.ages;
     }
 
-older_within : (n : ℕ) (es : List Entry) → All (Within n) es → All (Within (suc n)) (map older es)
+older_within : (n : ℕ) (es : List Entry) → AllByRecursion (Within n) es → AllByRecursion (Within (suc n)) (map older es)
 older_within n [] a = tt
 older_within n (e ∷ es) a = (omega arith, older_within n es a.1)
 
@@ -180,7 +180,7 @@ module _ (l : Ledger) (s : State) (i : Inv l s) where
   }
 
   -- ticks
-  ticked : (n : ℕ) → (n < s.settings.latency_limit → All (Within n) (map older l.pending)) → Inv (set_pending (map older l.pending) l) (placed s (aged n s.session) s.frames s.transport)
+  ticked : (n : ℕ) → (n < s.settings.latency_limit → AllByRecursion (Within n) (map older l.pending)) → Inv (set_pending (map older l.pending) l) (placed s (aged n s.session) s.frames s.transport)
   ticked n h = record {
     phase = i.phase;
     mark = i.mark;
@@ -201,7 +201,7 @@ module _ (l : Ledger) (s : State) (i : Inv l s) where
   counts on = ap (λ (x : List Entry). set_pending x l) (cond-true (is_active l.phase) (map older l.pending) l.pending (ap is_active (sym i.phase ∙ on)))
 
   -- below the limit every entry has been there for at most age
-  pub young : is_young s.settings s.session ≡ true → All (Within (suc s.session.age)) (map older l.pending)
+  pub young : is_young s.settings s.session ≡ true → AllByRecursion (Within (suc s.session.age)) (map older l.pending)
   young h = let below = ltb-true (suc s.session.age) s.settings.latency_limit h in older_within s.session.age l.pending (i.buffered.ages (omega arith))
 
   at_limit : Inv (set_pending (map older l.pending) l) (placed s (aged s.settings.latency_limit s.session) s.frames s.transport)
@@ -224,8 +224,8 @@ module _ (l : Ledger) (s : State) (i : Inv l s) where
 
   -- the oldest record, as a move finds it
   module _ (a : Acceptance) (more : List Acceptance) (u : l.untaken ≡ a ∷ more) (k : Looks s a.value) where
-    well : All WellAccepted (a ∷ more)
-    well = subst (λ (x : List Acceptance). All WellAccepted x) u i.framed.well
+    well : AllByRecursion WellAccepted (a ∷ more)
+    well = subst (λ (x : List Acceptance). AllByRecursion WellAccepted x) u i.framed.well
 
     dropped : (frames : Queue) → Dropped s.frames frames → Framed frames.held more
     dropped frames f = record {
@@ -291,7 +291,7 @@ module _ (l : Ledger) (s : State) (i : Inv l s) where
       → (r : Record) → Looks s r → (us : List Acceptance) → l.untaken ≡ us → P r
   looked P p r k [] u = let e = oldest_of r k [] u in let z : ◌≡◌ {A = ℕ} 0 1 = cc in absurd (omega arith)
   looked P p r k (a ∷ more) u =
-      let back = one_record_written a.value (subst (λ (x : List Acceptance). All WellAccepted x) u i.framed.well).0.0 in
+      let back = one_record_written a.value (subst (λ (x : List Acceptance). AllByRecursion WellAccepted x) u i.framed.well).0.0 in
       let e = oldest_of r k (a ∷ more) u in
       let same : a.value ≡ r = cc in
       subst (λ (x : Record). Looks s x → P x) same (λ k'. p a more u k') k

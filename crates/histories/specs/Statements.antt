@@ -1,6 +1,6 @@
 -- What holds in every history after every call.
 use Rattle.std.specs.Prelude.{◌≡◌, ◌⊎◌, true, cond, List, [], ◌∷◌, ◌++◌, map, ℕ, suc, ◌<◌, ◌≤◌, ◌==◌, length, Option, Some, None, Result, Ok, Err}
-use Rattle.std.specs.List.{AllByRecursion as All, filter}
+use Rattle.std.specs.List.{AllByRecursion, filter}
 use Rattle.codec.specs.declared.fault.Fault.{Fault}
 use Rattle.codec.specs.Records.{Record, encode}
 use Rattle.codec.specs.RecordReading.{records_in}
@@ -31,7 +31,7 @@ RisesFrom n (a ∷ rest) = (n ≤ a.number) × RisesFrom (suc a.number) rest
 -- First statement. On the way to the collector nothing is lost, doubled, reordered or made up: the PDUs collected and those that wait read as the records handed over, in order; those among them that were accepted are the records accepted under their numbers, each once, in order of acceptance. And the transfer buffer's records are those pending.
 pub record Delivered (l : Ledger) (s : State) : Type 0 where
   pub read : records_of (l.pdus ++ s.transport.held) ≡ Some (map record_of l.handed)
-  pub genuine : All (λ (a : Acceptance). accepted_as l.received a.number ≡ Some a.value) (acceptances l.handed)
+  pub genuine : AllByRecursion (λ (a : Acceptance). accepted_as l.received a.number ≡ Some a.value) (acceptances l.handed)
   pub in_order : RisesFrom 0 (acceptances l.handed)
   pub buffer : s.session.buffer ≡ map record_of l.pending
 
@@ -52,7 +52,7 @@ Complete l = Finished l → own_acceptances l.run.number l.handed ≡ due l.run.
 
 -- Third statement. After a tick that finds the provider active and the transport empty, no record has waited for as many active ticks as the latency limit.
 abbrev pub Punctual : State → Event → Ledger → Type 0
-Punctual s e l' = e.call ≡ tick → s.session.phase ≡ active → s.transport.held ≡ [] → All (λ (x : Entry). x.ticks < s.settings.latency_limit) l'.pending
+Punctual s e l' = e.call ≡ tick → s.session.phase ≡ active → s.transport.held ≡ [] → AllByRecursion (λ (x : Entry). x.ticks < s.settings.latency_limit) l'.pending
 
 -- All accepted records by their fates: passed over, discarded, handed over, pending, untaken.
 abbrev pub fates : Ledger → List Acceptance

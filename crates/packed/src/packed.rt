@@ -4,8 +4,8 @@ ghost use Rattle.packed.specs.Packing.{packed, unpacked};
 
 use ring::ring::Ring;
 
+pub mod as_queue;
 pub mod calls;
-pub mod queue;
 
 // Records in a ring of octets, each behind its length in two octets, and how many they are.
 #[derive(Drop)]

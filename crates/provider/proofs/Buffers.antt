@@ -1,6 +1,6 @@
 -- A transfer buffer with one record more, and an empty one.
 use Rattle.std.proofs.Common.{◌≡◌, ℕ, ◌+◌, ◌*◌, ◌<◌, ◌≤◌, Bool, true, false, cond, List, [], ◌∷◌, ◌++◌, length, take, drop, Some, None, filter, Option, sym, refl, ap, ◌∙◌, append_assoc, append-nil, arith, length-append, length-drop}
-use Rattle.std.specs.List.{flat_map, AllByRecursion as All}
+use Rattle.std.specs.List.{flat_map, AllByRecursion}
 use Rattle.std.proofs.lemmas.List.{take_at, length-take-le}
 use Rattle.std.proofs.lemmas.List.Elements.{filter-append}
 use Rattle.std.proofs.lemmas.Bool.{and_parts, leb-true, le-leb}
@@ -38,7 +38,7 @@ one_well (loss t) w = w
 one_well (status v) w = refl
 one_well end_of_data w = refl
 
-all_well : (rs : List Record) → all_well_formed rs ≡ true → All WellFormed rs
+all_well : (rs : List Record) → all_well_formed rs ≡ true → AllByRecursion WellFormed rs
 all_well [] e = tt
 all_well (r ∷ rs) e = let p = and_parts (well_formed r) (all_well_formed rs) e in (well_one r p.0, all_well rs p.1)
 
@@ -51,7 +51,7 @@ well_more (x ∷ rs) r e w =
     rw (a, b)
 
 -- well-formed records are short enough
-joined_short : (rs : List Record) → All WellFormed rs → length (flat_map encode rs) ≤ length rs * longest_record
+joined_short : (rs : List Record) → AllByRecursion WellFormed rs → length (flat_map encode rs) ≤ length rs * longest_record
 joined_short [] w = omega arith
 joined_short (r ∷ rs) w =
     let one = encode_limit r w.0 in

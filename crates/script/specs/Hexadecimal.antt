@@ -1,6 +1,6 @@
 -- Octets written by two hexadecimal digits each.
 use Rattle.std.specs.Prelude.{◌≡◌, ℕ, ◌+◌, ◌-◌, ◌*◌, ◌/◌, ◌%◌, ◌<◌, cond, ◌&&◌, List, [], ◌∷◌, Some, None, Option, nat_le, nat_lt}
-use Rattle.std.specs.List.{AllByRecursion as All}
+use Rattle.std.specs.List.{AllByRecursion}
 
 -- The value of a digit of either case.
 abbrev pub digit_value : ℕ → Option ℕ
@@ -37,4 +37,4 @@ hexadecimal_text (o ∷ os) = digits_of_octets (o ∷ os)
 
 -- What was written is read back.
 abbrev pub OctetsReadBack : Type 0
-OctetsReadBack = (os : List ℕ) → All (λ o. o < 256) os → octets_of_digits (digits_of_octets os) ≡ Some os
+OctetsReadBack = (os : List ℕ) → AllByRecursion (λ o. o < 256) os → octets_of_digits (digits_of_octets os) ≡ Some os

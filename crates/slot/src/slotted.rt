@@ -7,8 +7,8 @@ use crate::note::SlotNote;
 use ring::memory::Memory;
 use ring::ring::Ring;
 
+pub mod as_queue;
 pub mod calls;
-pub mod queue;
 
 // Records in slots of one width, with a note of each, oldest first. They take the slots in turn: the oldest is in
 // the slot `first`, and the next record goes into the slot `next`.

@@ -2,7 +2,7 @@ use Rattle.std.proofs.Common.{◌≡◌, length, ap, ◌∙◌, rules}
 use Rattle.packed.specs.Packing.{packed_size, room_beside}
 use Rattle.packed.specs.Holding.{held_in, octets_in}
 use Rattle.packed.proofs.Packs.{used_is}
-use Rattle.packed.proofs.packed.queue.PackedQueue.room_for.Goals as goal
+use Rattle.packed.proofs.packed.as_queue.PackedQueue.room_for.Goals as goal
 
 pub returns : goal.returns
 returns c =

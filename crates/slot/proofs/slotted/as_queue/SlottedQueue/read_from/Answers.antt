@@ -5,7 +5,7 @@ use Rattle.ring.specs.Memories.{contents}
 use Rattle.ring.specs.Rings.{elements}
 use Rattle.slot.specs.Slots.{noted}
 use Rattle.slot.proofs.Oldest.{told, untold, read_out, read_beyond}
-use Rattle.slot.proofs.slotted.queue.SlottedQueue.read_from.Goals as goal
+use Rattle.slot.proofs.slotted.as_queue.SlottedQueue.read_from.Goals as goal
 
 pub returns-in-Err : goal.returns-in-Err
 returns-in-Err c =

@@ -4,7 +4,7 @@ use Rattle.ring.specs.Memories.{contents}
 use Rattle.ring.specs.Rings.{elements}
 use Rattle.slot.specs.Slots.{noted, room_beside}
 use Rattle.slot.specs.Holding.{held_in}
-use Rattle.slot.proofs.slotted.queue.SlottedQueue.room_for.Goals as goal
+use Rattle.slot.proofs.slotted.as_queue.SlottedQueue.room_for.Goals as goal
 
 pub returns : goal.returns
 returns c =

@@ -3,7 +3,7 @@ use Rattle.ring.specs.Rings.{elements}
 use Rattle.queue.specs.Answers.{gives, first_answer, drop_answer, rest}
 use Rattle.packed.specs.Holding.{held_in}
 use Rattle.packed.proofs.Packs.{shrunk}
-use Rattle.packed.proofs.packed.queue.PackedQueue.drop.Goals as goal
+use Rattle.packed.proofs.packed.as_queue.PackedQueue.drop.Goals as goal
 
 pub invariant_of-self : goal.invariant_of-self
 invariant_of-self c =

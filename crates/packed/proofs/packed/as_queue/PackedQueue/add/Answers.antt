@@ -3,7 +3,7 @@ use Rattle.queue.proofs.Admission.{admitted}
 use Rattle.packed.specs.Packing.{packed_largest, packed_room, packed_size}
 use Rattle.packed.specs.Holding.{held_in, octets_in}
 use Rattle.packed.proofs.Packs.{room_fits, used_is}
-use Rattle.packed.proofs.packed.queue.PackedQueue.add.Goals as goal
+use Rattle.packed.proofs.packed.as_queue.PackedQueue.add.Goals as goal
 
 pub put-requires : goal.put-requires
 put-requires c =

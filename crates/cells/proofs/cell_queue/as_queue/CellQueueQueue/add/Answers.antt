@@ -3,7 +3,7 @@ use Rattle.queue.proofs.Admission.{admitted}
 use Rattle.cells.specs.Sizes.{cell_size}
 use Rattle.cells.specs.Cells.{cell_room, limit_in, held_in}
 use Rattle.cells.proofs.Boards.{free_cell, one_more}
-use Rattle.cells.proofs.cell_queue.queue.CellQueueQueue.add.Goals as goal
+use Rattle.cells.proofs.cell_queue.as_queue.CellQueueQueue.add.Goals as goal
 
 pub push_reserved-requires : goal.push_reserved-requires
 push_reserved-requires c =

@@ -1,7 +1,7 @@
 use Rattle.std.proofs.Common.{◌≡◌, [], arith, rules}
 use Rattle.std.proofs.lemmas.List.{nil_from_length}
 use Rattle.ring.specs.Rings.{elements}
-use Rattle.slot.proofs.slotted.queue.SlottedQueue.drop.Goals as goal
+use Rattle.slot.proofs.slotted.as_queue.SlottedQueue.drop.Goals as goal
 
 pub returns-then-count-eq0 : goal.returns-then-count-eq0
 returns-then-count-eq0 c =

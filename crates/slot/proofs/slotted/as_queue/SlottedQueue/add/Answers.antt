@@ -6,7 +6,7 @@ use Rattle.ring.specs.Rings.{elements}
 use Rattle.slot.specs.Slots.{noted, slot_largest, slot_room}
 use Rattle.slot.specs.Holding.{held_in}
 use Rattle.slot.proofs.Puts.{room_fits}
-use Rattle.slot.proofs.slotted.queue.SlottedQueue.add.Goals as goal
+use Rattle.slot.proofs.slotted.as_queue.SlottedQueue.add.Goals as goal
 
 pub put-requires : goal.put-requires
 put-requires c =

@@ -3,7 +3,7 @@ use Rattle.queue.specs.Answers.{gives, number, first_answer}
 use Rattle.ring.specs.Memories.{contents}
 use Rattle.slot.specs.Slots.{noted}
 use Rattle.slot.proofs.Oldest.{told, untold}
-use Rattle.slot.proofs.slotted.queue.SlottedQueue.first_length.Goals as goal
+use Rattle.slot.proofs.slotted.as_queue.SlottedQueue.first_length.Goals as goal
 
 pub returns-in-Ok : goal.returns-in-Ok
 returns-in-Ok c =

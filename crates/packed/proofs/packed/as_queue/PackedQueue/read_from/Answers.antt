@@ -4,7 +4,7 @@ use Rattle.ring.specs.Rings.{elements}
 use Rattle.queue.specs.Answers.{gives, first_answer, read_answer, read_buffer}
 use Rattle.packed.specs.Holding.{held_in}
 use Rattle.packed.proofs.Packs.{read_out, read_beyond}
-use Rattle.packed.proofs.packed.queue.PackedQueue.read_from.Goals as goal
+use Rattle.packed.proofs.packed.as_queue.PackedQueue.read_from.Goals as goal
 
 pub returns-then-place-n : goal.returns-then-place-n
 returns-then-place-n c =
