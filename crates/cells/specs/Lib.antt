@@ -1,2 +1,3 @@
 pub mod Sizes
 pub mod Cells
+pub mod Lawful

@@ -1,8 +1,18 @@
--- The laws of the tandem's room, from those of the two queues below.
-use Rattle.std.specs.Prelude.{◌≡◌, ℕ, ◌<◌, ◌≤◌, max, Bool, true, false, ◌&&◌, ◌||◌, ◌⊎◌, List, [], refl}
-use Rattle.std.proofs.Common.{inl, inr, arith}
-use Rattle.std.proofs.lemmas.Bool.{cases_lt, and_parts}
-use Rattle.layers.specs.Layers.{none, tandem_room}
+-- The laws of the rooms of quota and tandem, from those of the queues below.
+use Rattle.std.specs.Prelude.{◌≡◌, ℕ, ◌<◌, ◌≤◌, max, Bool, true, false, ◌&&◌, ◌||◌, ◌⊎◌, List, [], length, refl, nat_lt}
+use Rattle.std.proofs.Common.{ap, inl, inr, arith}
+use Rattle.std.proofs.lemmas.Bool.{cases_lt, lt-ltb, and_parts}
+use Rattle.layers.specs.Layers.{none, quota_room, tandem_room}
+
+module _ (limit : ℕ) (held : List (List ℕ)) (below : ℕ → Bool) (n : ℕ) where
+  pub quota_vacant : 0 < limit → held ≡ [] → below n ≡ true → quota_room limit held below n ≡ true
+  quota_vacant some e free =
+      let few : length held ≡ 0 = ap length e in
+      let fewer = lt-ltb (length held) limit (omega arith) in
+      rw (fewer, free)
+
+  pub quota_bounded : quota_room limit held below n ≡ true → below n ≡ true
+  quota_bounded e = (and_parts (nat_lt (length held) limit) (below n) e).1
 
 or_true : (x : Bool) → (x || true) ≡ true
 or_true true = refl

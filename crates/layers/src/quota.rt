@@ -1,6 +1,5 @@
 ghost use Rattle.std.specs.Prelude.{◌≡◌, ◌<◌, max};
 ghost use Rattle.layers.specs.Layers.{quota_room};
-ghost use Rattle.std.proofs.Common.{rules};
 
 use queue::interface::Queue;
 use queue::meaning::Meaning;
@@ -27,15 +26,19 @@ impl<Q> Quota<Q> {
 }
 
 impl<Q: Meaning> Meaning for Quota<Q> {
+    ghost use Rattle.layers.specs.Rooms.{quota_vacant, quota_bounded};
+
     ghost held = { λ s. Q.Meaning.held s.below };
 
     ghost largest = { λ s. Q.Meaning.largest s.below };
 
     ghost room = { λ s. quota_room s.limit (Q.Meaning.held s.below) (Q.Meaning.room s.below) };
 
-    ghost vacant = { Prim.search rules };
+    ghost vacant = { λ q n e p l.
+        quota_vacant q.limit (Q.Meaning.held q.below) (Q.Meaning.room q.below) n q.some e (Q.Meaning.vacant q.below n e p l) };
 
-    ghost bounded = { Prim.search rules };
+    ghost bounded = { λ q n e.
+        Q.Meaning.bounded q.below n (quota_bounded q.limit (Q.Meaning.held q.below) (Q.Meaning.room q.below) n e) };
 }
 
 impl<Q: Queue> Queue for Quota<Q> {

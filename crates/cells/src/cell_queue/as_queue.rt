@@ -2,7 +2,7 @@ ghost use Rattle.std.specs.Prelude.{◌≡◌, length};
 ghost use Rattle.cells.specs.Sizes.{cell_size};
 ghost use Rattle.cells.specs.Cells.{held_in, limit_in, cell_room, Oldest};
 ghost use Rattle.queue.specs.Answers.{answer_of, add_answer};
-ghost use Rattle.std.proofs.Common.{rules};
+ghost use Rattle.cells.specs.Lawful.{cell_vacant, cell_bounded};
 
 use super::CellQueue;
 use crate::cell::{CELL_SIZE, Cell};
@@ -50,9 +50,9 @@ impl Meaning for CellQueue {
 
     ghost room = { λ q. cell_room (limit_in q) (held_in q) };
 
-    ghost vacant = { Prim.search rules };
+    ghost vacant = { λ q n. cell_vacant (limit_in q) (held_in q) n q.some };
 
-    ghost bounded = { Prim.search rules };
+    ghost bounded = { λ q. cell_bounded (limit_in q) (held_in q) };
 }
 
 impl Queue for CellQueue {
