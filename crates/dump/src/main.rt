@@ -1,9 +1,9 @@
 // Takes octets apart: prints what a PDU or an invocation says, field by field, or where it is faulty.
 #![tactic(auto)]
 
-use anyhow::anyhow;
 use std::io;
 use std::io::{Read, Write};
+use std::process::ExitCode;
 
 mod invocations;
 mod play;
@@ -11,21 +11,21 @@ mod records;
 
 use play::Played;
 
-fn run(rt: &HostRuntime) -> anyhow::Result<()> {
+fn run(rt: &HostRuntime) -> anyhow::Result<ExitCode> {
     let heap = rt.alloc();
     let mut text = Vec::new(heap);
     rt.stdin().read_to_end(&mut text)?;
     let Played { answers, fault } = play::play(text.as_slice(), heap)?;
     rt.stdout().write_all(answers.as_slice())?;
     match fault {
-        None => Ok(()),
+        None => Ok(ExitCode::SUCCESS),
         Some(fault) => {
             rt.eprintln(fault)?;
-            Err(anyhow!("the script was not taken apart to its end"))
+            Ok(ExitCode::FAILURE)
         }
     }
 }
 
-fn main(rt: HostRuntime) -> anyhow::Result<()> {
+fn main(rt: HostRuntime) -> anyhow::Result<ExitCode> {
     run(&rt)
 }
