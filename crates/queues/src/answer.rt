@@ -14,9 +14,9 @@ fn say_done(
     out: &mut Vec<u8>,
     heap: Global,
     done: &str,
-    res: Result<(), Refusal>,
+    outcome: Result<(), Refusal>,
 ) -> Result<(), AllocError> {
-    match res {
+    match outcome {
         Ok(()) => say(out, done),
         Err(refusal) => say_refusal(out, heap, refusal),
     }
