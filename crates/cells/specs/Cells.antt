@@ -1,5 +1,6 @@
 -- What a board of cells holds, and for what it has room.
-use Rattle.std.specs.Prelude.{◌≡◌, ℕ, Bool, ◌&&◌, List, [], ◌∷◌, map, length, take, Ok, Err, vec_items, Result, nat_lt}
+use Rattle.std.specs.Prelude.{◌≡◌, ℕ, Bool, ◌&&◌, List, [], ◌∷◌, map, length, take, Ok, Err, Result, nat_lt}
+use Rattle.std.specs.VecDeque.{deque_items}
 use Rattle.queue.specs.declared.refusal.Refusal.{Refusal}
 use Rattle.queue.specs.Answers.{fair, number, rest}
 use Rattle.cells.specs.declared.cell.Cell.{Cell}
@@ -12,7 +13,7 @@ record_in c = take c.used c.octets
 
 -- The records of a queue, oldest first.
 abbrev pub held_in : CellQueue → List (List ℕ)
-held_in q = map record_in (vec_items q.cells)
+held_in q = map record_in (deque_items q.cells)
 
 -- How many cells a queue has.
 abbrev pub limit_in : CellQueue → ℕ

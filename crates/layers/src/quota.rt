@@ -3,7 +3,7 @@ ghost use Rattle.layers.specs.Layers.{quota_room};
 
 use queue::interface::Queue;
 use queue::meaning::Meaning;
-use queue::refusal::{Refusal, admit};
+use queue::refusal::Refusal;
 
 // A queue of which at most `limit` records are in use.
 #[derive(Drop)]
@@ -55,9 +55,7 @@ impl<Q: Queue> Queue for Quota<Q> {
     }
 
     fn add(&mut self, octets: &[u8]) -> Result<(), Refusal> {
-        let most = self.below.largest();
-        let free = self.below.count() < self.limit;
-        admit(octets.len(), most, free)?;
+        self.admission(octets.len())?;
         self.below.add(octets)
     }
 

@@ -6,7 +6,7 @@ ghost use Rattle.layers.specs.Rooms.{tandem_vacant, tandem_bounded};
 
 use queue::interface::Queue;
 use queue::meaning::Meaning;
-use queue::refusal::{Refusal, admit};
+use queue::refusal::Refusal;
 
 // Two queues in a row: what the near queue holds is older than what the far queue holds.
 #[derive(Drop)]
@@ -24,17 +24,6 @@ impl<N, F> Tandem<N, F> {
 }
 
 impl<N: Queue, F: Queue> Tandem<N, F> {
-    // The greater of the two largest lengths.
-    fn widest(&mut self) -> usize
-        ensures answer { result ≡ max (N.Meaning.largest self.old.near) (F.Meaning.largest self.old.far) }
-        ensures near { Kept N.Meaning self.old.near self.new.near }
-        ensures far { Kept F.Meaning self.old.far self.new.far }
-    {
-        let near = self.near.largest();
-        let far = self.far.largest();
-        near.max(far)
-    }
-
     // Whether a record of `n` octets goes to the near queue: only while the far queue is empty, since a record that
     // went to the near queue past older ones in the far queue would leave before them.
     fn goes_near(&mut self, n: usize) -> bool
@@ -72,7 +61,9 @@ impl<N: Queue, F: Queue> Queue for Tandem<N, F> {
     }
 
     fn largest(&mut self) -> usize {
-        self.widest()
+        let near = self.near.largest();
+        let far = self.far.largest();
+        near.max(far)
     }
 
     fn room_for(&mut self, n: usize) -> bool {
@@ -80,16 +71,15 @@ impl<N: Queue, F: Queue> Queue for Tandem<N, F> {
     }
 
     fn add(&mut self, octets: &[u8]) -> Result<(), Refusal> {
-        let n = octets.len();
-        if self.goes_near(n) {
+        self.admission(octets.len())?;
+        if self.goes_near(octets.len()) {
             return self.near.add(octets);
         }
-        let most = self.widest();
-        let free = self.far.room_for(n);
-        admit(n, most, free)?;
         self.far.add(octets)
     }
 
+    // The two queues differ in type, and a function that hands out one of them as `&mut dyn Queue` is refused by the
+    // toolchain: so each call about the oldest record chooses between them itself.
     fn first_length(&mut self) -> Result<usize, Refusal> {
         if self.near.count() == 0 {
             return self.far.first_length();

@@ -10,10 +10,10 @@ pub fn carry_all<F: Queue, T: Queue>(from: &mut F, to: &mut T, buffer: &mut [u8]
     ensures in_order { T.Meaning.held to.new ++ F.Meaning.held from.new ≡ T.Meaning.held to.old ++ F.Meaning.held from.old }
 {
     let count = from.count();
+    // The index is the answer: how many went over before one was refused.
     for k in 0..count {
-        match carry(from, to, buffer) {
-            Ok(_) => {}
-            Err(_) => return k,
+        if carry(from, to, buffer).is_err() {
+            return k;
         }
     }
     count

@@ -11,7 +11,7 @@ use std::io;
 
 mod carrying;
 
-const RECORDS: [&'static str; 7] = [
+const RECORDS: [&str; 7] = [
     "the first goes to the board",
     "",
     "and so does the second",
@@ -27,10 +27,7 @@ fn fill<Q: Queue>(rt: &HostRuntime, queue: &mut Q) -> io::Result<()> {
         let length = record.len();
         match queue.add(record.as_bytes()) {
             Ok(()) => println!(rt; "add {length} octets: added")?,
-            Err(refusal) => {
-                let number = refusal.number();
-                println!(rt; "add {length} octets: refused {number}")?;
-            }
+            Err(refusal) => println!(rt; "add {length} octets: refused {}", refusal.number())?,
         }
     }
     Ok(())
@@ -38,13 +35,12 @@ fn fill<Q: Queue>(rt: &HostRuntime, queue: &mut Q) -> io::Result<()> {
 
 // Prints the records of a queue, oldest first, and drops them.
 fn empty<Q: Queue>(rt: &HostRuntime, queue: &mut Q) -> anyhow::Result<()> {
+    // A queue is no iterator: its records are read and dropped by calls that may refuse.
     for _ in 0..queue.count() {
         let mut buffer = [0; 64];
         if let Ok(n) = queue.read_from(0, &mut buffer) {
-            if let Some(part) = buffer.get(0..n) {
-                let text = String::from_utf8_lossy(rt.alloc(), part)?;
-                println!(rt; "held: {text}")?;
-            }
+            let text = String::from_utf8_lossy(rt.alloc(), &buffer[..n])?;
+            println!(rt; "held: {text}")?;
         }
         let _ = queue.drop();
     }

@@ -1,8 +1,9 @@
 -- Packing and unpacking undo one another, and follow an add, a drop and a read. Assumes nothing.
-use Rattle.std.proofs.Common.{◌≡◌, ℕ, suc, ◌+◌, ◌-◌, ◌*◌, ◌/◌, ◌%◌, ◌<◌, ◌≤◌, min, true, leb, List, [], ◌∷◌, ◌++◌, length, take, drop, sym, refl, ap, ◌∙◌, append_assoc, append-nil, arith, length-append, length-drop}
+use Rattle.std.proofs.Common.{◌≡◌, ℕ, suc, ◌+◌, ◌-◌, ◌*◌, ◌/◌, ◌%◌, ◌<◌, ◌≤◌, min, true, leb, List, [], ◌∷◌, ◌++◌, length, take, drop, sym, refl, ap, ◌∙◌, inl, inr, append_assoc, append-nil, arith, length-append, length-drop}
 use Rattle.std.proofs.lemmas.List.{take_at, drop_at, length_push, length-take-le, drop-append-le, take-append-le}
-use Rattle.std.proofs.lemmas.Bool.{and_parts, leb-true}
-use Rattle.queue.specs.Answers.{gives, refuses, fair, first_answer, read_answer, read_buffer, drop_answer, rest}
+use Rattle.std.proofs.lemmas.Bool.{and_parts, leb-true, cases_lt, lt-ltb, le-leb, lt-leb}
+use Rattle.std.specs.Int.{w16, to_be_bytes}
+use Rattle.queue.specs.Answers.{gives, fair, length_limit, first_answer, read_buffer, drop_answer, rest}
 use Rattle.queue.proofs.Admission.{fair_bounds}
 use Rattle.queue.proofs.Reading.{read_part, read_past}
 use Rattle.ring.specs.Rings.{elements, added, dropped}
@@ -10,7 +11,7 @@ use Rattle.ring.specs.Parts.{part_read}
 use Rattle.ring.proofs.Granted.{added_whole, dropped_whole, read_within}
 use Rattle.packed.specs.declared.packed.Packed.{Packed}
 use Rattle.packed.specs.Holding.{held_in, octets_in}
-use Rattle.packed.specs.Packing.{packed, unpacked, packed_size, room_beside, packed_largest, head_size, length_limit}
+use Rattle.packed.specs.Packing.{packed, unpacked, packed_size, room_beside, packed_largest, packed_room, head_size}
 
 split : (n : ℕ) → (n / 256) * 256 + n % 256 ≡ n
 split n = omega arith
@@ -82,10 +83,10 @@ shrunk p n e' f less =
     let got : unpacked (k - 1) e' ≡ ss = rw (k-is, e'-is) (unpacked_packed ss) in
     (got ∙ ap rest (sym o.2), ap packed got ∙ sym e'-is, ap length got ∙ sym k-is, ap drop_answer (sym o.2))
 
--- A read of the oldest record: what is copied into the front of the buffer, and how much.
+-- A read of the oldest record: what is copied into the front of the buffer.
 pub read_out : (p : Packed) (n place : ℕ) (out : List ℕ) → gives n ≡ first_answer (held_in p) → place ≤ n
     → let m = min (n - place) (length out) in
-    (part_read (elements p.ring) (place + 2) (take m out) ++ drop m out ≡ read_buffer (held_in p) place out) × (gives m ≡ read_answer (held_in p) place (length out))
+    part_read (elements p.ring) (place + 2) (take m out) ++ drop m out ≡ read_buffer (held_in p) place out
 read_out p n place out f le =
     let o = opened (held_in p) n f in
     let r = o.0 in
@@ -102,16 +103,13 @@ read_out p n place out f le =
     let front : part_read e (place + 2) (take m out) ≡ take m (drop place r) =
     read_within e (place + 2) (take m out) long ∙ ap (λ q. take q (drop (place + 2) e)) lm ∙ ap (take m) from ∙ take-append-le m (drop place r) (packed ss) (omega arith) in
     let part = read_part r out ss place pl in
-    let m-is : min (n - place) (length out) ≡ m = omega (arith, o.3) in (
-      ap (λ q. part_read e (place + 2) (take q out) ++ drop q out) m-is ∙ ap (λ q. q ++ drop m out) front ∙ part.0 ∙ ap (λ q. read_buffer q place out) (sym o.2),
-      ap gives m-is ∙ part.1 ∙ ap (λ q. read_answer q place (length out)) (sym o.2),
-    )
+    let m-is : min (n - place) (length out) ≡ m = omega (arith, o.3) in
+    ap (λ q. part_read e (place + 2) (take q out) ++ drop q out) m-is ∙ ap (λ q. q ++ drop m out) front ∙ part.0 ∙ ap (λ q. read_buffer q place out) (sym o.2)
 
-pub read_beyond : (p : Packed) (n place : ℕ) (out : List ℕ) → gives n ≡ first_answer (held_in p) → n < place
-    → (refuses 31 ≡ read_answer (held_in p) place (length out)) × (out ≡ read_buffer (held_in p) place out)
+pub read_beyond : (p : Packed) (n place : ℕ) (out : List ℕ) → gives n ≡ first_answer (held_in p) → n < place → out ≡ read_buffer (held_in p) place out
 read_beyond p n place out f lt =
     let o = opened (held_in p) n f in
-    rw o.2 (read_past o.0 out o.1 place (omega (arith, o.3)))
+    rw o.2 (read_past o.0 out o.1 place (omega (arith, o.3))).1
 
 pub used_is : (p : Packed) → length (elements p.ring) ≡ packed_size (held_in p)
 used_is p = ap length (sym p.whole) ∙ length_packed (held_in p)
@@ -121,3 +119,20 @@ room_fits octets used n e =
     let p = and_parts (fair (packed_largest octets) n) (leb (used + (n + head_size)) octets) e in
     let q = fair_bounds (packed_largest octets) n p.0 in
     (leb-true (used + (n + head_size)) octets p.1, omega (arith, q.1))
+
+-- a record goes into what is left beside the octets in use
+pub room_left : (p : Packed) (n : ℕ) → 0 < n → n ≤ packed_largest (octets_in p) → length (elements p.ring) ≤ octets_in p
+    → leb (n + head_size) (octets_in p - length (elements p.ring)) ≡ packed_room (octets_in p) (held_in p) n
+room_left p n some fair fits =
+    let o = octets_in p in
+    let u = used_is p in
+    let a = lt-ltb 0 n some in
+    let b = le-leb n (packed_largest o) fair in
+    elim (cases_lt o (packed_size (held_in p) + (n + head_size))) [
+      | inl h ↦ (let c = lt-leb (packed_size (held_in p) + (n + head_size)) o h in let d = lt-leb (n + head_size) (o - length (elements p.ring)) (omega arith) in rw (a, b, c, d))
+      | inr h ↦ (let c = le-leb (packed_size (held_in p) + (n + head_size)) o h in let d = le-leb (n + head_size) (o - length (elements p.ring)) (omega arith) in rw (a, b, c, d))
+    ]
+
+-- the two octets of a length
+pub head_octets : (n : ℕ) → n ≤ length_limit → to_be_bytes w16 n ≡ (n / 256) ∷ ((n % 256) ∷ [])
+head_octets n h = let e : n / 256 % 256 ≡ n / 256 = omega arith in rw e

@@ -1,10 +1,6 @@
 -- Records packed one after the other, each behind its length in two octets, the high octet first.
 use Rattle.std.specs.Prelude.{ℕ, zero, suc, ◌+◌, ◌-◌, ◌*◌, ◌/◌, ◌%◌, min, Bool, ◌&&◌, List, [], ◌∷◌, ◌++◌, length, take, drop, nat_le}
-use Rattle.queue.specs.Answers.{fair}
-
--- The largest length that two octets say.
-abbrev pub length_limit : ℕ
-length_limit = 65535
+use Rattle.queue.specs.Answers.{fair, length_limit}
 
 -- The octets of a length.
 abbrev pub head_size : ℕ

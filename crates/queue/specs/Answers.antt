@@ -26,6 +26,10 @@ count_limit = 4294967295
 abbrev pub capped : ℕ → ℕ
 capped n = min n count_limit
 
+-- The largest length of a record in a queue over lent octets.
+abbrev pub length_limit : ℕ
+length_limit = 65535
+
 -- A length that a record of this queue may have.
 abbrev pub fair : ℕ → ℕ → Bool
 fair most n = nat_lt 0 n && nat_le n most

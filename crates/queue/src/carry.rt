@@ -3,10 +3,10 @@ ghost use Rattle.queue.specs.Carrying.{carry_answer, carry_answer_of, carry_numb
 ghost use Rattle.queue.specs.declared.carry.CarryRefusal.TheVariants.{Queue as queue_refusal};
 
 use crate::interface::Queue;
-use crate::refusal::{Refusal, admit};
+use crate::refusal::Refusal;
 
 // Why a record was not carried.
-#[derive(Clone, Copy)]
+#[derive(Clone, Copy, Debug, PartialEq, Eq)]
 pub enum CarryRefusal {
     // One of the two queues refused.
     Queue(Refusal),
@@ -15,7 +15,7 @@ pub enum CarryRefusal {
 }
 
 impl CarryRefusal {
-    // The refusal's number.
+    // The refusal's number: a method, whose name says what the number is.
     pub fn number(&self) -> u8
         ensures { result ≡ carry_number self.now }
     {
@@ -48,9 +48,7 @@ pub fn carry<F: Queue, T: Queue>(
     if n > buffer.len() {
         return Err(CarryRefusal::BufferTooShort);
     }
-    let most = to.largest();
-    let free = to.room_for(n);
-    admit(n, most, free)?;
+    to.admission(n)?;
     // None of these refuses, as has just been tested.
     let _ = from.read_from(0, buffer);
     let _ = to.add(&buffer[0..n]);

@@ -3,7 +3,10 @@ ghost use Rattle.queue.specs.Answers.{answer_of, capped, add_answer, add_list, f
 ghost use Rattle.queue.specs.Changes.{Kept, Changed};
 
 use crate::meaning::Meaning;
-use crate::refusal::Refusal;
+use crate::refusal::{Refusal, admit};
+
+// The largest length of a record in a queue over lent octets: it is kept in two octets.
+pub const LENGTH_LIMIT: usize = u16::MAX as usize;
 
 // A queue of records, which are strings of octets. Every call takes the queue for writing, since a queue over a
 // device may have to move something to answer; a question promises that its meaning is kept.
@@ -22,6 +25,16 @@ pub trait Queue: Meaning {
     fn room_for(&mut self, n: usize) -> bool
         ensures answer { result ≡ Self.Meaning.room self.old n }
         ensures kept { Kept Self.Meaning self.old self.new };
+
+    // Whether a record of `n` octets is taken now, and else why not.
+    fn admission(&mut self, n: usize) -> Result<(), Refusal>
+        ensures answer { answer_of result ≡ add_answer (Self.Meaning.largest self.old) (Self.Meaning.room self.old) n }
+        ensures kept { Kept Self.Meaning self.old self.new }
+    {
+        let largest = self.largest();
+        let room = self.room_for(n);
+        admit(n, largest, room)
+    }
 
     // Puts a record behind those held.
     fn add(&mut self, octets: &[u8]) -> Result<(), Refusal>

@@ -2,7 +2,7 @@ ghost use Rattle.std.specs.Prelude.{◌≡◌};
 ghost use Rattle.queue.specs.Answers.{number, answer_of, admission};
 
 // Why a queue refuses a call.
-#[derive(Clone, Copy, PartialEq, Eq)]
+#[derive(Clone, Copy, Debug, PartialEq, Eq)]
 pub enum Refusal {
     // Nothing is held.
     Empty,
@@ -15,7 +15,7 @@ pub enum Refusal {
 }
 
 impl Refusal {
-    // The refusal's number.
+    // The refusal's number: a method, whose name says what the number is.
     pub fn number(&self) -> u8
         ensures { result ≡ number self.now }
     {

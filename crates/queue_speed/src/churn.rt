@@ -1,27 +1,17 @@
 use queue::interface::Queue;
 
 // What a churn has moved, and a sum over octets that it read.
-#[derive(Clone, Copy)]
+#[derive(Clone, Copy, Default)]
 pub struct Tally {
     pub records: u32,
     pub octets: u64,
     pub sum: u64,
 }
 
-impl Tally {
-    pub fn none() -> Tally {
-        Tally {
-            records: 0,
-            octets: 0,
-            sum: 0,
-        }
-    }
-}
-
 // Gives each record another first octet, so that a record in another's place changes the sum.
 fn mark(record: &mut [u8], number: u32) {
-    if record.len() > 0 {
-        record[0] = (number % 256) as u8;
+    if let Some(first) = record.first_mut() {
+        *first = (number % 256) as u8;
     }
 }
 

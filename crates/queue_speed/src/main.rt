@@ -34,17 +34,15 @@ fn play(rt: &HostRuntime, rounds: u32, lengths: &[usize]) -> io::Result<()> {
 // code for all of them, as it has to for records from outside.
 fn main(rt: HostRuntime) -> io::Result<()> {
     limits::show(&rt)?;
-    let mut rounds = ROUNDS;
-    let mut lengths = Vec::new(rt.alloc());
-    for (place, text) in env::args(&rt)?.enumerate() {
-        if let Ok(number) = text.parse::<u32>() {
-            if place == 1 {
-                rounds = number;
-            } else {
-                lengths.push(number as usize)?;
-            }
-        }
-    }
+    let mut arguments = env::args(&rt)?.skip(1);
+    let rounds = arguments
+        .next()
+        .and_then(|text| text.parse().ok())
+        .unwrap_or(ROUNDS);
+    let mut lengths: Vec<usize> = arguments
+        .filter_map(|text| text.parse::<u32>().ok())
+        .map(|length| length as usize)
+        .collect(rt.alloc())?;
     if lengths.is_empty() {
         lengths = Vec::from_slice(rt.alloc(), &LENGTHS)?;
     }

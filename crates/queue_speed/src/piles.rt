@@ -26,7 +26,7 @@ fn fastest<Q: Queue>(
     out: &mut [u8],
     rounds: u32,
 ) -> io::Result<(Tally, u128)> {
-    let mut tally = Tally::none();
+    let mut tally = Tally::default();
     let mut best = u128::MAX;
     for _ in 0..BATCHES {
         let start = Instant::now(rt)?;
@@ -54,37 +54,44 @@ fn measure<Q: Queue>(rt: &HostRuntime, name: &str, queue: &mut Q, load: Load) ->
     eprintln!(rt; "{name} {length} {held} {rounds} {best}")
 }
 
-// Octets for this many packed records, and a few more, so that records go round the end.
-fn packed_octets(length: usize, records: usize) -> usize {
-    length
+// Octets for the records of a load, packed, and a few more, so that records go round the end.
+fn packed_memory(rt: &HostRuntime, load: Load) -> io::Result<Vec<u8>> {
+    let octets = load
+        .length
         .saturating_add(2)
-        .saturating_mul(records)
-        .saturating_add(5)
+        .saturating_mul(load.held as usize + 2)
+        .saturating_add(5);
+    Ok(vec![in rt.alloc(); 0u8; octets]?)
+}
+
+// The octets and the notes of a queue of slots.
+fn slot_memory(
+    rt: &HostRuntime,
+    slots: usize,
+    width: usize,
+) -> io::Result<(Vec<u8>, Vec<SlotNote>)> {
+    let octets = vec![in rt.alloc(); 0u8; width.saturating_mul(slots)]?;
+    let notes = vec![in rt.alloc(); SlotNote::default(); slots]?;
+    Ok((octets, notes))
 }
 
 pub fn packed(rt: &HostRuntime, load: Load) -> io::Result<()> {
-    let octets = packed_octets(load.length, load.held as usize + 2);
-    let mut memory = vec![in rt.alloc(); 0u8; octets]?;
+    let mut memory = packed_memory(rt, load)?;
     let mut queue = Packed::new(&mut memory);
     measure(rt, "packed", &mut queue, load)
 }
 
 pub fn slot(rt: &HostRuntime, load: Load) -> io::Result<()> {
-    let slots = load.held as usize + 2;
-    let mut memory = vec![in rt.alloc(); 0u8; load.length.saturating_mul(slots)]?;
-    let mut notes = vec![in rt.alloc(); SlotNote::blank(); slots]?;
-    let mut queue = Slotted::new(&mut memory, &mut notes, load.length);
+    let (mut octets, mut notes) = slot_memory(rt, load.held as usize + 2, load.length)?;
+    let mut queue = Slotted::new(&mut octets, &mut notes, load.length);
     measure(rt, "slot", &mut queue, load)
 }
 
 // Half of the records go to slots, the others to a packed queue behind them.
 pub fn tandem(rt: &HostRuntime, load: Load) -> io::Result<()> {
-    let slots = load.held as usize / 2;
-    let mut memory = vec![in rt.alloc(); 0u8; load.length.saturating_mul(slots)]?;
-    let mut notes = vec![in rt.alloc(); SlotNote::blank(); slots]?;
-    let mut near = Slotted::new(&mut memory, &mut notes, load.length);
-    let octets = packed_octets(load.length, load.held as usize + 2);
-    let mut behind = vec![in rt.alloc(); 0u8; octets]?;
+    let (mut octets, mut notes) = slot_memory(rt, load.held as usize / 2, load.length)?;
+    let mut near = Slotted::new(&mut octets, &mut notes, load.length);
+    let mut behind = packed_memory(rt, load)?;
     let mut far = Packed::new(&mut behind);
     let mut queue = Tandem::new(&mut near, &mut far);
     measure(rt, "tandem", &mut queue, load)

@@ -1,12 +1,11 @@
 -- A list that is read from a place on, and round its end: where its places stand, and what a write, a read and a step leave. Assumes nothing.
-use Rattle.std.proofs.Common.{◌≡◌, ℕ, ◌+◌, ◌-◌, ◌<◌, ◌≤◌, min, ◌⊎◌, List, ◌++◌, length, get_or, take, drop, sym, ap, ◌∙◌, inl, inr, append_assoc, arith, length-append, length-drop, take-append-drop, length-take, length-take-le, take-take, drop-drop, take_at, take-add, drop_at}
+use Rattle.std.proofs.Common.{◌≡◌, ℕ, ◌+◌, ◌-◌, ◌<◌, ◌≤◌, ◌⊎◌, List, ◌++◌, length, get_or, take, drop, sym, ap, ◌∙◌, inl, inr, append_assoc, arith, length-append, length-drop, take-append-drop, length-take, length-take-le, take-take, drop-drop, take_at, take-add, drop_at}
 use lib.Seq.{take-append-add, drop-append-add, take-append-le, drop-append-le}
 use Rattle.std.proofs.lemmas.List.{drop-take, get_or_append_left, get_or-drop}
 use Rattle.std.proofs.lemmas.Bool.{cases_lt, lt-ltb, le-ltb}
-use Rattle.queue.proofs.Reading.{take_least, drop_least}
 use Rattle.ring.specs.Turns.{turned, placed}
 use Rattle.ring.specs.Parts.{written}
-use Rattle.ring.proofs.Writing.{length_written, written_left, written_right, written_twice, take_written}
+use Rattle.ring.proofs.Writing.{length_written, written_left, written_right, written_twice}
 
 -- a place stands behind `start` or before it
 abbrev Ways : ℕ → ℕ → ℕ → Type 0
@@ -132,18 +131,11 @@ module _ {X : Type 0} where
       ∙ get_or_append_left (drop p xs) (take p xs) x 0 xd ∙ get_or-drop p xs 0 x ∙ ap (λ q. get_or xs q x) p0
 
   -- the held elements after `n` of them are dropped
-  pub dropped : (s c n : ℕ) (xs : List X) → s ≤ length xs → n ≤ c → c ≤ length xs
+  pub dropped_on : (s c n : ℕ) (xs : List X) → s ≤ length xs → n ≤ c → c ≤ length xs
       → take (c - n) (turned (placed s n (length xs)) xs) ≡ drop n (take c (turned s xs))
-  dropped s c n xs h l m =
+  dropped_on s c n xs h l m =
       let e : n + (c - n) ≡ c = omega arith in
       sym (from_place s n (c - n) xs h (omega arith)) ∙ sym (drop-take n (c - n) (turned s xs)) ∙ ap (λ q. drop n (take q (turned s xs))) e
-
-  -- the held elements after a run was written behind them
-  pub grown : (s c : ℕ) (xs ys run : List X) → c + length run ≤ length xs → turned s ys ≡ written (turned s xs) c run
-      → (take (c + length run) (turned s ys) ≡ take c (turned s xs) ++ run) × (length ys ≡ length xs)
-  grown s c xs ys run h e =
-      let l = length_turned s xs in
-      (ap (take (c + length run)) e ∙ take_written (turned s xs) c run (omega arith), sym (length_turned s ys) ∙ ap length e ∙ length_written (turned s xs) c run (omega arith) ∙ l)
 
   -- a run that stands among the held elements
   pub held_run : (s c from n : ℕ) (xs : List X) → from + n ≤ c → take n (drop from (turned s xs)) ≡ take n (drop from (take c (turned s xs)))
@@ -151,7 +143,3 @@ module _ {X : Type 0} where
       let y = turned s xs in
       let e : from + (c - from) ≡ c = omega arith in
       sym (take-take n (c - from) (drop from y) (omega arith)) ∙ ap (take n) (sym (drop-take from (c - from) y)) ∙ ap (λ q. take n (drop from (take q y))) e
-
-  -- the bounds of a place and of a number of elements
-  pub turned_least : (s : ℕ) (xs : List X) → turned (min s (length xs)) xs ≡ turned s xs
-  turned_least s xs = rw (drop_least s xs, take_least s xs)

@@ -10,6 +10,10 @@ within xs at n = nat_le (at + n) (length xs)
 abbrev pub written : {X : Type 0} → List X → ℕ → List X → List X
 written xs at run = take at xs ++ (run ++ drop (at + length run) xs)
 
+-- Where the n places from a place on do not lie within this many, that is refused with 31.
+abbrev pub place_answer : ℕ → ℕ → ℕ → Answer (Unit {0})
+place_answer size at n = cond (nat_le (at + n) size) (gives tt) (refuses 31)
+
 -- A part that does not lie within the list is refused with 31.
 abbrev pub part_answer : {X : Type 0} → List X → ℕ → ℕ → Answer (Unit {0})
 part_answer xs at n = cond (within xs at n) (gives tt) (refuses 31)

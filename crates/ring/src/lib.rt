@@ -3,4 +3,3 @@
 mod block;
 pub mod memory;
 pub mod ring;
-mod round;

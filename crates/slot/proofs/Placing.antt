@@ -71,9 +71,6 @@ pub slot_after_more : (s f k : ℕ) → slot_after s f (suc k) ≡ onward s (slo
 slot_after_more s f zero = refl
 slot_after_more s f (suc k) = slot_after_more s (onward s f) k
 
-pub onward_lt : (s f : ℕ) → 0 < s → onward s f < s
-onward_lt s f h = elim (cases_lt (f + 1) s) [ inl l ↦ (let t = lt-ltb (f + 1) s l in rw t l) | inr l ↦ (let t = le-ltb (f + 1) s l in rw t h) ]
-
 pub placed_from : (s w f : ℕ) (ns : List SlotNote) → in_turn s w f ns ≡ true → Placed s w f ns
 placed_from s w f [] e = tt
 placed_from s w f (n ∷ ns) e =

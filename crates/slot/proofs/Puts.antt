@@ -1,14 +1,11 @@
 -- What an add and a read come to. Assumes nothing.
-use Rattle.std.proofs.Common.{◌≡◌, ℕ, ◌+◌, ◌*◌, ◌/◌, ◌<◌, ◌≤◌, min, true, ltb, List, [], ◌∷◌, ◌++◌, map, length, sym, ap, ◌∙◌, subst, inl, inr, mul-le-mul_right, div-mul-le_self, add-one, arith}
+use Rattle.std.proofs.Common.{◌≡◌, ℕ, ◌+◌, ◌*◌, ◌<◌, ◌≤◌, true, List, [], ◌∷◌, ◌++◌, map, length, sym, ap, ◌∙◌, subst, add-one, arith}
 use Rattle.std.proofs.lemmas.List.{map_push, length_push}
-use Rattle.std.proofs.lemmas.Bool.{lt-ltb, le-ltb, cases_lt, and_parts, ltb-true}
-use Rattle.queue.specs.Answers.{fair}
-use Rattle.queue.proofs.Admission.{fair_bounds}
 use Rattle.ring.specs.Parts.{written, part_written}
 use Rattle.ring.specs.Memories.{contents}
 use Rattle.ring.specs.Rings.{elements, size, added}
 use Rattle.ring.proofs.Granted.{added_whole, written_within}
-use Rattle.slot.specs.Slots.{noted, slots_of, slot_largest, room_beside, length_limit}
+use Rattle.slot.specs.Slots.{noted}
 use Rattle.slot.specs.Placing.{onward, slot_after, in_turn}
 use Rattle.slot.specs.declared.note.SlotNote.{SlotNote}
 use Rattle.slot.specs.declared.slotted.Slotted.{Slotted}
@@ -66,19 +63,3 @@ put_done q ns' o' next' r free short nse oe on =
     let note : SlotNote = record { place = q.next * q.width; length = length r } in
     filed q.slots q.width q.first q.next next' ns ns' o o' r q.placed q.within (q.begins (omega arith)) q.follows free short
     (nse ∙ added_whole ns (size q.notes) (note ∷ []) (omega (arith, q.noted))) (oe ∙ written_within o (q.next * q.width) r (omega (arith, at.1))) on
-
-pub slots_fit : (notes octets w : ℕ) → (slots_of notes octets w * w ≤ octets) × (slots_of notes octets w ≤ notes)
-slots_fit notes octets w =
-    elim (cases_lt 0 w) [
-      | inl h ↦ (let t = lt-ltb 0 w h in let d = div-mul-le_self octets w in let m : min notes (octets / w) * w ≤ octets / w * w = mul-le-mul_right w (omega arith) in rw t (omega arith, omega arith))
-      | inr h ↦ (let t = le-ltb 0 w h in rw t (omega arith, omega arith))
-    ]
-
--- Where there is room for a record, there is a free slot, and the record is no longer than a slot.
-pub room_fits : (slots w count n : ℕ) → room_beside slots w count n ≡ true → (count < slots) × (n ≤ w)
-room_fits slots w count n e =
-    let p = and_parts (fair (slot_largest slots w) n) (ltb count slots) e in
-    let free = ltb-true count slots p.1 in
-    let some = lt-ltb 0 slots (omega arith) in
-    let l : n ≤ min w length_limit = rw some at (fair_bounds (slot_largest slots w) n p.0).1 in
-    (free, omega arith)

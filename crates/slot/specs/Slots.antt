@@ -1,15 +1,16 @@
 -- Records in slots of one width, with a note of each.
-use Rattle.std.specs.Prelude.{ℕ, ◌/◌, min, Bool, cond, ◌&&◌, List, length, take, drop, nat_lt}
-use Rattle.queue.specs.Answers.{fair}
+use Rattle.std.specs.Prelude.{ℕ, ◌/◌, min, Bool, cond, ◌&&◌, List, [], ◌∷◌, length, take, drop, nat_lt}
+use Rattle.queue.specs.Answers.{Answer, gives, refuses, fair, length_limit}
 use Rattle.slot.specs.declared.note.SlotNote.{SlotNote}
 
 -- The record that a note tells of, among these octets.
 abbrev pub noted : List ℕ → SlotNote → List ℕ
 noted octets n = take n.length (drop n.place octets)
 
--- The largest length of any record.
-abbrev pub length_limit : ℕ
-length_limit = 65535
+-- The oldest note; where there is none, that is refused with 30.
+abbrev pub oldest_note : List SlotNote → Answer SlotNote
+oldest_note [] = refuses 30
+oldest_note (n ∷ ns) = gives n
 
 -- How many slots there are, of this many notes and octets and this width.
 abbrev pub slots_of : ℕ → ℕ → ℕ → ℕ

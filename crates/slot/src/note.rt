@@ -1,7 +1,7 @@
 ghost use Rattle.std.specs.Prelude.{◌≡◌};
 
 // Where a record stands among the octets, and how long it is.
-#[derive(Clone, Copy)]
+#[derive(Clone, Copy, Default)]
 pub struct SlotNote {
     pub place: usize,
     pub length: usize,
@@ -12,9 +12,6 @@ impl SlotNote {
     pub fn blank() -> SlotNote
         ensures { (result.place ≡ 0) × (result.length ≡ 0) }
     {
-        SlotNote {
-            place: 0,
-            length: 0,
-        }
+        SlotNote::default()
     }
 }

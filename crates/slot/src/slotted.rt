@@ -1,4 +1,4 @@
-ghost use Rattle.std.specs.Prelude.{◌≡◌, ◌*◌, ◌^◌, ◌<◌, ◌≤◌, true, length};
+ghost use Rattle.std.specs.Prelude.{◌≡◌, ◌*◌, ◌<◌, ◌≤◌, true, length};
 ghost use Rattle.ring.specs.Memories.{contents};
 ghost use Rattle.ring.specs.Rings.{elements, size};
 ghost use Rattle.slot.specs.Placing.{in_turn, slot_after};
@@ -22,7 +22,6 @@ pub struct Slotted<'a> {
     next: usize,
     ghost placed: { in_turn slots width first (elements notes) ≡ true },
     ghost within: { slots * width ≤ length (contents octets) },
-    ghost bounded: { length (contents octets) < 2 ^ 64 },
     ghost noted: { slots ≤ size notes },
     ghost few: { length (elements notes) ≤ slots },
     ghost begins: { 0 < slots → first < slots },

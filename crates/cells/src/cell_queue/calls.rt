@@ -3,6 +3,7 @@ ghost use Rattle.cells.specs.Cells.{held_in, limit_in};
 
 use super::CellQueue;
 use std::alloc::{AllocError, Global};
+use std::collections::VecDeque;
 
 impl CellQueue {
     // An empty queue on a board of so many cells, or of one where that is 0.
@@ -11,7 +12,7 @@ impl CellQueue {
     {
         let limit = cells.max(1);
         Ok(CellQueue {
-            cells: Vec::with_capacity(heap, limit)?,
+            cells: VecDeque::with_capacity(heap, limit)?,
             limit,
         })
     }

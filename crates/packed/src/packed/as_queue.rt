@@ -1,50 +1,14 @@
-ghost use Rattle.std.specs.Prelude.{◌≡◌, ◌^◌, ◌<◌};
-ghost use Rattle.queue.specs.Answers.{answer_of, add_answer};
-ghost use Rattle.packed.specs.Packing.{packed_largest, packed_room, room_beside};
+ghost use Rattle.packed.specs.Packing.{packed_largest, packed_room};
 ghost use Rattle.packed.specs.Holding.{held_in, octets_in};
 ghost use Rattle.packed.specs.Lawful.{packed_vacant, packed_bounded};
 
 use super::Packed;
-use queue::interface::Queue;
+use queue::interface::{LENGTH_LIMIT, Queue};
 use queue::meaning::Meaning;
-use queue::refusal::{Refusal, admit};
-
-// The largest length that is kept in two octets.
-const LENGTH_LIMIT: usize = 65535;
+use queue::refusal::Refusal;
 
 // The octets of a length.
 const HEAD_SIZE: usize = 2;
-
-// The largest length of a queue of this many octets.
-fn largest_within(octets: usize) -> usize
-    ensures { result ≡ packed_largest octets }
-{
-    octets.saturating_sub(HEAD_SIZE).min(LENGTH_LIMIT)
-}
-
-// Whether a record of `n` octets goes beside those that take up `used` octets.
-fn fits_beside(octets: usize, used: usize, n: usize) -> bool
-    ensures { result ≡ room_beside octets used n }
-{
-    if n == 0 || n > largest_within(octets) || used > octets {
-        return false;
-    }
-    n + HEAD_SIZE <= octets - used
-}
-
-impl<'a> Packed<'a> {
-    // Whether a record of `n` octets is taken now.
-    fn admission(&mut self, n: usize) -> Result<(), Refusal>
-        ensures answer { answer_of result ≡ add_answer (packed_largest (octets_in self.old)) (packed_room (octets_in self.old) (held_in self.old)) n }
-        ensures list { held_in self.new ≡ held_in self.old }
-        ensures same { octets_in self.new ≡ octets_in self.old }
-        ensures bounded { octets_in self.new < 2 ^ 64 }
-    {
-        let size = self.ring.size();
-        let used = self.ring.count();
-        admit(n, largest_within(size), fits_beside(size, used, n))
-    }
-}
 
 impl<'a> Meaning for Packed<'a> {
     ghost held = { held_in };
@@ -60,19 +24,19 @@ impl<'a> Meaning for Packed<'a> {
 
 impl<'a> Queue for Packed<'a> {
     fn count(&mut self) -> u32 {
-        self.count.min(u32::MAX as usize) as u32
+        u32::try_from(self.count).unwrap_or(u32::MAX)
     }
 
     fn largest(&mut self) -> usize {
-        largest_within(self.ring.size())
+        self.ring.size().saturating_sub(HEAD_SIZE).min(LENGTH_LIMIT)
     }
 
+    #[tactic(auto, using(crate::proofs::Packs::room_left))]
     fn room_for(&mut self, n: usize) -> bool {
-        let size = self.ring.size();
-        let used = self.ring.count();
-        fits_beside(size, used, n)
+        0 < n && n <= self.largest() && n + HEAD_SIZE <= self.ring.size() - self.ring.count()
     }
 
+    // Each queue puts in its own way; that it admits first is all that is common.
     fn add(&mut self, octets: &[u8]) -> Result<(), Refusal> {
         self.admission(octets.len())?;
         self.put(octets);
@@ -83,6 +47,7 @@ impl<'a> Queue for Packed<'a> {
         Ok(self.oldest_length()? as usize)
     }
 
+    #[tactic(auto, using(crate::proofs::Packs::read_out, crate::proofs::Packs::read_beyond))]
     fn read_from(&mut self, place: usize, out: &mut [u8]) -> Result<usize, Refusal> {
         let n = self.oldest_length()? as usize;
         if place > n {

@@ -4,7 +4,7 @@ ghost use Rattle.ring.specs.Parts.{part_answer, part_written, part_read};
 ghost use Rattle.ring.specs.Memories.{contents};
 
 use super::Memory;
-use crate::block::{read, write};
+use crate::block::{read, within, write};
 use queue::refusal::Refusal;
 
 impl<'a, T: Copy> Memory<'a, T> {
@@ -20,24 +20,17 @@ impl<'a, T: Copy> Memory<'a, T> {
         ensures answer { answer_of result ≡ part_answer (contents self.old) at (length run.now) }
         ensures left { contents self.new ≡ part_written (contents self.old) at run.now }
     {
-        let size = self.slots.len();
-        if at > size || run.len() > size - at {
-            return Err(Refusal::Place);
-        }
+        within(at, run.len(), self.slots.len())?;
         write(self.slots, at, run);
         Ok(())
     }
 
     // Fills `out` with the elements from `at` on, if that part lies within the memory.
-    pub fn read_part(&mut self, at: usize, out: &mut [T]) -> Result<(), Refusal>
-        ensures answer { answer_of result ≡ part_answer (contents self.old) at (length out.old) }
-        ensures buffer { out.new ≡ part_read (contents self.old) at out.old }
-        ensures kept { contents self.new ≡ contents self.old }
+    pub fn read_part(&self, at: usize, out: &mut [T]) -> Result<(), Refusal>
+        ensures answer { answer_of result ≡ part_answer (contents self.now) at (length out.old) }
+        ensures buffer { out.new ≡ part_read (contents self.now) at out.old }
     {
-        let size = self.slots.len();
-        if at > size || out.len() > size - at {
-            return Err(Refusal::Place);
-        }
+        within(at, out.len(), self.slots.len())?;
         read(self.slots, at, out);
         Ok(())
     }

@@ -48,7 +48,8 @@ impl<'a> Slotted<'a> {
 
     // Puts a record, for which there is a slot, behind those held.
     pub(crate) fn put(&mut self, octets: &[u8])
-        requires { (length (elements self.old.notes) < slots_in self.old) × (length octets.now ≤ width_in self.old) }
+        requires free { length (elements self.old.notes) < slots_in self.old }
+        requires short { length octets.now ≤ width_in self.old }
         ensures list { held_in self.new ≡ held_in self.old ++ (octets.now ∷ []) }
         ensures slots { slots_in self.new ≡ slots_in self.old }
         ensures width { width_in self.new ≡ width_in self.old }
