@@ -37,20 +37,20 @@ records ended read more = cond ended (Ok []) (and_then read (λ r. prepended r (
 
 none_by : (ended : Bool) (read : Result Record Fault) (at : ℕ) (more : Record → Result (List Record) Fault) → answer ended read at ≡ Ok None → count_or (records ended read more) ≡ Ok 0
 none_by true read at more h = refl
-none_by false (Ok r) at more h = let z : ◌≡◌ {A = ℕ} 0 1 = cc in absurd (omega arith)
-none_by false (Err e) at more h = let z : ◌≡◌ {A = ℕ} 0 1 = cc in absurd (omega arith)
+none_by false (Ok r) at more h = cc
+none_by false (Err e) at more h = cc
 
 fault_by : (ended : Bool) (read : Result Record Fault) (at : ℕ) (more : Record → Result (List Record) Fault) (e : Fault) → answer ended read at ≡ Err e → (ended ≡ false) × (count_or (records ended read more) ≡ Err e)
-fault_by true read at more e h = let z : ◌≡◌ {A = ℕ} 0 1 = cc in absurd (omega arith)
-fault_by false (Ok r) at more e h = let z : ◌≡◌ {A = ℕ} 0 1 = cc in absurd (omega arith)
+fault_by true read at more e h = cc
+fault_by false (Ok r) at more e h = cc
 fault_by false (Err d) at more e h = let same : d ≡ e = cc in (refl, ap Err same)
 
 some_by : (ended : Bool) (read : Result Record Fault) (at : ℕ) (rest : ℕ → Result (List Record) Fault) (p : Part) → answer ended read at ≡ Ok (Some p)
     → (ended ≡ false) × (count_or (records ended read (λ r. rest (at + length (encode r)))) ≡ after 1 (count_or (rest (cond ended at (behind_part (part read at) at)))))
     × (at < cond ended at (behind_part (part read at) at))
-some_by true read at rest p h = let z : ◌≡◌ {A = ℕ} 0 1 = cc in absurd (omega arith)
+some_by true read at rest p h = cc
 some_by false (Ok r) at rest p h = (refl, count_prepended r (rest (at + length (encode r))), omega (arith, encode_some r))
-some_by false (Err e) at rest p h = let z : ◌≡◌ {A = ℕ} 0 1 = cc in absurd (omega arith)
+some_by false (Err e) at rest p h = cc
 
 module _ (xs : List ℕ) (at : ℕ) where
   pub count_none : (m : ℕ) → next_part xs at ≡ Ok None → count_or (records_from m xs at) ≡ Ok 0

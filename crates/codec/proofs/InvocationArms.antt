@@ -1,13 +1,9 @@
 -- What the leading octets of an invocation decide.
-use Rattle.std.proofs.Common.{◌≡◌, ℕ, ◌-◌, ◌≤◌, List, length, get_or, take, drop, Ok, ap, ◌∙◌, arith, length-drop, length-take}
+use Rattle.std.proofs.Common.{◌≡◌, ℕ, ◌≤◌, List, length, get_or, Ok, ap, ◌∙◌, arith}
 use Rattle.std.proofs.lemmas.Bool.{le-leb}
 use Rattle.codec.specs.Fields.{and_then, two_octet_number, two_octets_at}
 use Rattle.codec.specs.Invocations.{start_operation, stop_operation, bind_operation, unbind_operation, abort_operation}
 use Rattle.codec.specs.InvocationReading.{request_in, operation_in, start_at, stop_at, bind_at, unbind_at, abort_at}
-
--- where the rest of a slice pattern begins
-pub rest_begins : (xs : List ℕ) (n : ℕ) → n ≤ length xs → length xs - length (take (length xs - n) (drop n xs)) ≡ n
-rest_begins xs n h = simp (length-take, length-drop) (omega arith)
 
 -- behind the mark the operation decides
 module _ (xs : List ℕ) (l : 3 ≤ length xs) (high : get_or xs 0 0 ≡ 0x49) (low : get_or xs 1 0 ≡ 0x56) where

@@ -4,23 +4,23 @@ use Rattle.std.proofs.lemmas.Bool.{leb-true, eqb-true, and_parts}
 use Rattle.codec.specs.Limits.{time_length, data_limit, frame_header_length, notification_length}
 use Rattle.codec.specs.Octets.{Octets}
 use Rattle.codec.specs.Times.{Stamp, zero_stamp, two_octets, stamp_octets}
-use Rattle.codec.specs.Fields.{octet_at, two_octets_at, stamp_at, zero_stamp_at}
+use Rattle.codec.specs.Fields.{octet_at, two_octets_at, zero_at, stamp_at, zero_stamp_at}
 use Rattle.codec.specs.Records.{Record, frame, encode, WellFormed, quality_octet, status_octet, frame_mark, notification_mark, notification_octets, loss_type, status_type, end_of_data_type, data_length_allowed}
-use Rattle.codec.specs.RecordReading.{Content, quality_of, status_of, quality_at, status_at, zero_at, data_length_at, frame_at, loss_at, status_change_at, end_of_data_at, notification_at, content_at, record_of, record_at}
+use Rattle.codec.specs.RecordReading.{Content, quality_of, status_of, quality_at, status_at, data_length_at, frame_at, loss_at, status_change_at, end_of_data_at, notification_at, content_at, record_of, record_at}
 use Rattle.codec.specs.declared.record.Quality.{Quality}
 use Rattle.codec.specs.declared.record.Quality.TheVariants.{Good, Erred, Undetermined}
 use Rattle.codec.specs.declared.record.ProductionStatus.{ProductionStatus}
 use Rattle.codec.specs.declared.record.ProductionStatus.TheVariants.{Running, Interrupted, Halted}
-use Rattle.codec.proofs.Results.{same_ok, and_then_ok, cond_ok, cond_cases, or_value_fault_ok, octet_of, none_left}
+use Rattle.codec.proofs.Results.{same_ok, and_then_ok, cond_ok, cond_cases, or_value_fault_ok, octet_of}
 use Rattle.codec.proofs.FieldsRead.{Stands, octet_read, two_octets_read, block_read, stamp_read, zero_stamp_read}
 
 quality_octet_lem : (n : ℕ) (q : Quality) → quality_of n ≡ Some q → n ≡ quality_octet q
 quality_octet_lem n q =
-    octet_of quality_octet n Good _ (octet_of quality_octet n Erred _ (octet_of quality_octet n Undetermined _ none_left))
+    octet_of quality_octet n Good _ (octet_of quality_octet n Erred _ (octet_of quality_octet n Undetermined _ (λ none. cc)))
 
 status_octet_lem : (n : ℕ) (s : ProductionStatus) → status_of n ≡ Some s → n ≡ status_octet s
 status_octet_lem n s =
-    octet_of status_octet n Running _ (octet_of status_octet n Interrupted _ (octet_of status_octet n Halted _ none_left))
+    octet_of status_octet n Running _ (octet_of status_octet n Interrupted _ (octet_of status_octet n Halted _ (λ none. cc)))
 
 -- a well-formed record whose octets stand at a place
 pub record Begins (xs : List ℕ) (at : ℕ) (r : Record) : Type 0 where

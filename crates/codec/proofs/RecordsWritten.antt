@@ -1,26 +1,16 @@
 -- A record that stands at a place as it was written reads as that record.
-use Rattle.std.proofs.Common.{◌≡◌, ℕ, ◌+◌, ◌≤◌, true, List, [], ◌∷◌, ◌++◌, length, drop, Some, Ok, refl, arith}
+use Rattle.std.proofs.Common.{◌≡◌, ℕ, ◌+◌, ◌≤◌, true, List, [], ◌∷◌, ◌++◌, length, drop, Ok, refl, arith}
 use Rattle.std.proofs.lemmas.Bool.{le-leb}
 use Rattle.codec.specs.Limits.{time_length, data_limit, frame_header_length, notification_length, longest_record}
 use Rattle.codec.specs.Times.{Stamp, timely, zero_stamp, two_octets, stamp_octets}
 use Rattle.codec.specs.Fields.{octet_at, two_octets_at}
 use Rattle.codec.specs.Records.{Record, frame, loss, status, end_of_data, encode, WellFormed, quality_octet, status_octet, frame_mark, notification_mark, frame_header, notification_octets, loss_type, status_type, end_of_data_type}
-use Rattle.codec.specs.RecordReading.{quality_of, status_of, record_at}
+use Rattle.codec.specs.RecordReading.{record_at}
+use Rattle.codec.specs.contracts.record.values.QualityOctetValue.TheImpl as quality_laws
+use Rattle.codec.specs.contracts.record.values.ProductionStatusOctetValue.TheImpl as status_laws
 use Rattle.codec.specs.declared.record.Quality.{Quality}
-use Rattle.codec.specs.declared.record.Quality.TheVariants.{Good, Erred, Undetermined}
 use Rattle.codec.specs.declared.record.ProductionStatus.{ProductionStatus}
-use Rattle.codec.specs.declared.record.ProductionStatus.TheVariants.{Running, Interrupted, Halted}
 use Rattle.codec.proofs.FieldsWritten.{octet_written, two_octets_written, block_written, behind, stamp_written, zero_stamp_written}
-
-quality_back : (q : Quality) → quality_of (quality_octet q) ≡ Some q
-quality_back Good = refl
-quality_back Erred = refl
-quality_back Undetermined = refl
-
-status_back : (s : ProductionStatus) → status_of (status_octet s) ≡ Some s
-status_back Running = refl
-status_back Interrupted = refl
-status_back Halted = refl
 
 frame_written : (ys s : List ℕ) (q : Quality) (t : Stamp) (d : List ℕ) (at : ℕ) → drop at ys ≡ (frame_header q t (length d) ++ d) ++ s → timely t ≡ true → 1 ≤ length d → length d ≤ data_limit → record_at ys at ≡ Ok (frame q t d)
 unfolding record_at
@@ -32,7 +22,7 @@ frame_written ys s q t d at e g low high =
     let header = frame_header q t n in
     let e1 = two_octets_written ys (quality_octet q ∷ (stamp_octets t ++ (two_octets n ++ (d ++ s)))) frame_mark at e (omega arith) in
     let e2 = octet_written ys (stamp_octets t ++ (two_octets n ++ (d ++ s))) (quality_octet q) (at + 2) (behind ys marked _ at 2 e refl) in
-    let e3 = quality_back q in
+    let e3 = (quality_laws.given_back-value).it q in
     let e4 = stamp_written ys (two_octets n ++ (d ++ s)) t (at + 3) (behind ys qualified _ at 3 e refl) g in
     let f5 : drop (at + 3 + time_length) ys ≡ two_octets n ++ (d ++ s) = behind ys (stamp_octets t) _ (at + 3) time_length (behind ys qualified _ at 3 e refl) refl in
     let e5 = two_octets_written ys (d ++ s) n (at + 3 + time_length) f5 (omega arith) in
@@ -74,7 +64,7 @@ status_written ys s w at e =
     let e2 = type_written ys s status_type v zero_stamp at e in
     let e3 = zero_stamp_written ys (v ∷ s) (at + 3) (time_stands ys s status_type v zero_stamp at e) in
     let e4 = value_written ys s status_type v zero_stamp at e in
-    let e5 = status_back w in
+    let e5 = (status_laws.given_back-value).it w in
     rw (e1, e2, e3, e4, e5)
 
 end_written : (ys s : List ℕ) (at : ℕ) → drop at ys ≡ notification_octets end_of_data_type zero_stamp 0 ++ s → record_at ys at ≡ Ok end_of_data

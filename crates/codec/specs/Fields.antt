@@ -1,6 +1,8 @@
 -- Fields read at a place of an input: presence before value, and the fault where one or the other is missing.
 use Rattle.std.specs.Prelude.{ℕ, ◌+◌, ◌*◌, Bool, cond, List, length, Some, None, Ok, Err, Option, Result, ◌==◌, nat_le, slice_index}
+use Rattle.std.specs.Borrow.{Bor}
 use Rattle.codec.specs.Limits.{millisecond_limit, microsecond_limit}
+use Rattle.codec.specs.Blocks.{block_at}
 use Rattle.codec.specs.Times.{Stamp}
 use Rattle.codec.specs.declared.fault.Fault.{Fault}
 use Rattle.codec.specs.declared.fault.FaultKind.{FaultKind}
@@ -35,6 +37,14 @@ two_octet_number xs at = slice_index xs at * 256 + slice_index xs (at + 1)
 abbrev pub four_octet_number : List ℕ → ℕ → ℕ
 four_octet_number xs at = slice_index xs at * 16777216 + slice_index xs (at + 1) * 65536 + slice_index xs (at + 2) * 256 + slice_index xs (at + 3)
 
+-- The field of n octets at a place, and what the code answers of it.
+abbrev pub octets_at : List ℕ → ℕ → ℕ → Result (List ℕ) Fault
+octets_at xs at n = present xs at n (block_at xs at n)
+
+abbrev pub octets_or : Result (Bor (List ℕ)) Fault → Result (List ℕ) Fault
+octets_or (Ok field) = Ok field.now
+octets_or (Err e) = Err e
+
 -- The fields of one, two and four octets at a place.
 abbrev pub octet_at : List ℕ → ℕ → Result ℕ Fault
 octet_at xs at = present xs at 1 (slice_index xs at)
@@ -44,6 +54,14 @@ two_octets_at xs at = present xs at 2 (two_octet_number xs at)
 
 abbrev pub four_octets_at : List ℕ → ℕ → Result ℕ Fault
 four_octets_at xs at = present xs at 4 (four_octet_number xs at)
+
+-- The field of a value that an octet stands for.
+abbrev pub value_at : {X : Type 0} → (ℕ → Option X) → List ℕ → ℕ → Result X Fault
+value_at value_of xs at = and_then (octet_at xs at) (λ n. or_value_fault (value_of n) at)
+
+-- A field that has to be the octet 0.
+abbrev pub zero_at : List ℕ → ℕ → Result (Unit {0}) Fault
+zero_at xs at = and_then (octet_at xs at) (λ n. provided (n == 0) at (Ok tt))
 
 -- The time at a place.
 abbrev pub stamp_at : List ℕ → ℕ → Result Stamp Fault

@@ -3,7 +3,7 @@ use Rattle.std.specs.Prelude.{ℕ, ◌+◌, cond, List, length, Some, None, Ok, 
 use Rattle.codec.specs.Limits.{time_length}
 use Rattle.codec.specs.Blocks.{block_at}
 use Rattle.codec.specs.Times.{Stamp}
-use Rattle.codec.specs.Fields.{fault, present, and_then, provided, or_value_fault, octet_at, two_octets_at, stamp_at}
+use Rattle.codec.specs.Fields.{fault, present, and_then, provided, octet_at, value_at, two_octets_at, stamp_at}
 use Rattle.codec.specs.Invocations.{Request, start, stop, bind, unbind, abort, requested, identifier_length_allowed, invocation_mark, start_operation, stop_operation, bind_operation, unbind_operation, abort_operation}
 use Rattle.codec.specs.declared.fault.Fault.{Fault}
 use Rattle.codec.specs.declared.fault.FaultKind.TheVariants.{Mark, Value, Extra}
@@ -26,10 +26,10 @@ reason_of n =
 
 -- The fields of a requested quality and of a reason to unbind.
 abbrev pub requested_quality_at : List ℕ → ℕ → Result RequestedQuality Fault
-requested_quality_at xs at = and_then (octet_at xs at) (λ n. or_value_fault (requested_quality_of n) at)
+requested_quality_at xs at = value_at requested_quality_of xs at
 
 abbrev pub reason_at : List ℕ → ℕ → Result UnbindReason Fault
-reason_at xs at = and_then (octet_at xs at) (λ n. or_value_fault (reason_of n) at)
+reason_at xs at = value_at reason_of xs at
 
 -- A time that may be absent, and how many octets it takes.
 abbrev pub stamp_if_at : List ℕ → ℕ → Result (Option Stamp) Fault

@@ -2,6 +2,7 @@ pub mod Limits
 pub mod Octets
 pub mod Blocks
 pub mod Faults
+pub mod OctetValues
 pub mod Times
 pub mod Fields
 pub mod Records

@@ -4,7 +4,7 @@ use Rattle.std.specs.Str.{bytes_eq}
 use Rattle.codec.specs.Limits.{time_length, frame_header_length, notification_length}
 use Rattle.codec.specs.Blocks.{block_at}
 use Rattle.codec.specs.Times.{Stamp, stamp}
-use Rattle.codec.specs.Fields.{fault, present, and_then, provided, or_value_fault, octet_at, two_octets_at, stamp_at, zero_stamp_at}
+use Rattle.codec.specs.Fields.{fault, present, and_then, provided, octet_at, value_at, zero_at, two_octets_at, stamp_at, zero_stamp_at}
 use Rattle.codec.specs.Records.{Record, frame, loss, status, end_of_data, frame_mark, notification_mark, loss_type, status_type, end_of_data_type, data_length_allowed, encode}
 use Rattle.codec.specs.declared.fault.Fault.{Fault}
 use Rattle.codec.specs.declared.fault.FaultKind.TheVariants.{Mark, Value}
@@ -62,14 +62,10 @@ status_of n = cond (n == 0) (Some Running) (cond (n == 1) (Some Interrupted) (co
 
 -- The fields of a quality and of a production status.
 abbrev pub quality_at : List ℕ → ℕ → Result Quality Fault
-quality_at xs at = and_then (octet_at xs at) (λ n. or_value_fault (quality_of n) at)
+quality_at xs at = value_at quality_of xs at
 
 abbrev pub status_at : List ℕ → ℕ → Result ProductionStatus Fault
-status_at xs at = and_then (octet_at xs at) (λ n. or_value_fault (status_of n) at)
-
--- A field that has to be the octet 0.
-abbrev pub zero_at : List ℕ → ℕ → Result (Unit {0}) Fault
-zero_at xs at = and_then (octet_at xs at) (λ n. provided (n == 0) at (Ok tt))
+status_at xs at = value_at status_of xs at
 
 -- A data length, and that many octets behind it.
 abbrev pub data_length_at : List ℕ → ℕ → Result ℕ Fault

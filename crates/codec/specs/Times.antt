@@ -1,11 +1,11 @@
 -- Times: the three numbers of a day segmented time, their limits, their order and their octets.
-use Rattle.std.specs.Prelude.{ℕ, ◌/◌, ◌%◌, Bool, cond, ◌&&◌, List, [], ◌∷◌, ◌++◌, Some, None, Ok, Err, Option, Result, nat_le, nat_lt}
+use Rattle.std.specs.Prelude.{ℕ, ◌/◌, ◌%◌, Bool, cond, ◌&&◌, List, [], ◌∷◌, ◌++◌, Some, None, Ok, Err, Option, Result, nat_le}
+use Rattle.std.specs.Ordering.{nat_cmp, ordering_then}
+use Rattle.std.specs.declared.cmp.Ordering.{Ordering}
 use Rattle.codec.specs.Limits.{day_limit, millisecond_limit, microsecond_limit}
 use Rattle.codec.specs.declared.time.Time.{Time}
 use Rattle.codec.specs.declared.time.TimeField.{TimeField}
 use Rattle.codec.specs.declared.time.TimeField.TheVariants.{Millisecond, Microsecond}
-use Rattle.codec.specs.declared.time.TimeOrder.{TimeOrder}
-use Rattle.codec.specs.declared.time.TimeOrder.TheVariants.{Before, Same, After}
 
 -- A time by its three numbers, within the limits or not.
 pub record Stamp : Type 0 where
@@ -44,21 +44,11 @@ checked_stamp d ms us =
     (cond (nat_le us microsecond_limit) (Ok (record { day = d; millisecond = ms; microsecond = us })) (Err Microsecond))
     (Err Millisecond)
 
--- How one number stands to another.
-abbrev pub ordered : ℕ → ℕ → TimeOrder
-ordered m n = cond (nat_lt m n) Before (cond (nat_lt n m) After Same)
-
--- An order, unless it is the same: then the next one decides.
-abbrev pub decided : TimeOrder → TimeOrder → TimeOrder
-decided Before next = Before
-decided Same next = next
-decided After next = After
-
 -- How one stamp stands to another: by day, millisecond and microsecond in turn.
-abbrev pub compared : Stamp → Stamp → TimeOrder
+abbrev pub compared : Stamp → Stamp → Ordering
 compared a b =
-    decided (ordered a.day b.day)
-    (decided (ordered a.millisecond b.millisecond) (ordered a.microsecond b.microsecond))
+    ordering_then (nat_cmp a.day b.day)
+    (ordering_then (nat_cmp a.millisecond b.millisecond) (nat_cmp a.microsecond b.microsecond))
 
 -- A number in two and in four octets, the high octet first.
 abbrev pub two_octets : ℕ → List ℕ

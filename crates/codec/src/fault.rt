@@ -1,10 +1,11 @@
-ghost use Rattle.std.specs.Prelude.{◌≡◌, length};
-ghost use Rattle.codec.specs.Faults.{letter_of};
+ghost use Rattle.std.specs.Prelude.{◌≡◌, Some};
+ghost use Rattle.codec.specs.Faults.{letter_of, fault_text};
 ghost use Rattle.codec.specs.Fields.{fault};
-ghost use Rattle.codec.specs.declared.fault.FaultKind.TheVariants.{Short, Mark, Value, Extra};
+
+use std::fmt;
 
 // What is wrong with octets that should read as records or as an invocation.
-#[derive(Clone, Copy)]
+#[derive(Clone, Copy, Debug, PartialEq, Eq)]
 pub enum FaultKind {
     // The input ends too early.
     Short,
@@ -17,7 +18,7 @@ pub enum FaultKind {
 }
 
 impl FaultKind {
-    // The letter under which a kind of fault is answered.
+    // The letter under which a kind of fault is answered: by a method, since it is printed with the place.
     pub fn letter(self) -> char
         ensures { result ≡ letter_of self }
     {
@@ -28,53 +29,27 @@ impl FaultKind {
             FaultKind::Extra => 'E',
         }
     }
+
+    // A fault of this kind at a place.
+    pub(crate) fn at(self, place: usize) -> Fault
+        ensures { result ≡ fault self place }
+    {
+        Fault { kind: self, place }
+    }
 }
 
 // A fault and its place, counted in octets from the start of the input.
-#[derive(Clone, Copy)]
+#[derive(Clone, Copy, Debug, PartialEq, Eq)]
 pub struct Fault {
     pub kind: FaultKind,
     pub place: usize,
 }
 
-impl Fault {
-    // The input ends too early.
-    pub(crate) fn short(input: &[u8]) -> Fault
-        ensures { result ≡ fault Short (length input.now) }
-    {
-        Fault {
-            kind: FaultKind::Short,
-            place: input.len(),
-        }
-    }
+// The letter of the kind and the place.
+impl fmt::Display for Fault {
+    ghost output = { λ f. Some (fault_text f) };
 
-    // The mark at a place is none of those expected.
-    pub(crate) fn mark(place: usize) -> Fault
-        ensures { result ≡ fault Mark place }
-    {
-        Fault {
-            kind: FaultKind::Mark,
-            place,
-        }
-    }
-
-    // The field at a place has a value that it may not have.
-    pub(crate) fn value(place: usize) -> Fault
-        ensures { result ≡ fault Value place }
-    {
-        Fault {
-            kind: FaultKind::Value,
-            place,
-        }
-    }
-
-    // From a place on octets are left over.
-    pub(crate) fn extra(place: usize) -> Fault
-        ensures { result ≡ fault Extra place }
-    {
-        Fault {
-            kind: FaultKind::Extra,
-            place,
-        }
+    fn fmt<W: fmt::Write>(&self, f: &mut fmt::Formatter<W>) -> fmt::Result {
+        write!(f, "{} {}", self.kind.letter(), self.place)
     }
 }

@@ -17,7 +17,7 @@ pub const SHORTEST_IDENTIFIER: usize = 3;
 pub const LONGEST_IDENTIFIER: usize = 16;
 
 // The frames that a START asks for.
-#[derive(Clone, Copy)]
+#[derive(Clone, Copy, Debug, PartialEq, Eq)]
 pub enum RequestedQuality {
     GoodOnly,
     ErredOnly,
@@ -25,7 +25,7 @@ pub enum RequestedQuality {
 }
 
 // Why a user ends its association.
-#[derive(Clone, Copy)]
+#[derive(Clone, Copy, Debug, PartialEq, Eq)]
 pub enum UnbindReason {
     End,
     Suspend,
@@ -33,8 +33,8 @@ pub enum UnbindReason {
     Other,
 }
 
-// A user's identifier: the first `count` of these octets.
-#[derive(Clone, Copy)]
+// A user's identifier: the first `count` of these octets, an array since this crate takes no memory from the heap.
+#[derive(Clone, Copy, Debug)]
 pub struct Identifier {
     octets: [u8; LONGEST_IDENTIFIER],
     count: usize,
@@ -42,7 +42,7 @@ pub struct Identifier {
 }
 
 // What a user invokes.
-#[derive(Clone, Copy)]
+#[derive(Clone, Copy, Debug, PartialEq, Eq)]
 pub enum Invocation {
     Start {
         id: u16,
@@ -68,7 +68,7 @@ pub enum Invocation {
 }
 
 // Why an invocation is refused.
-#[derive(Clone, Copy)]
+#[derive(Clone, Copy, Debug, PartialEq, Eq)]
 pub enum InvocationFault {
     Closed,
     Undecodable(Fault),

@@ -3,7 +3,8 @@
 
 pub(crate) mod blocks;
 pub mod fault;
-pub(crate) mod fields;
 pub mod invocation;
+pub mod octet_value;
+pub(crate) mod position;
 pub mod record;
 pub mod time;

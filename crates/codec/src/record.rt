@@ -26,7 +26,7 @@ pub const NOTIFICATION_LENGTH: usize = TIME_LENGTH + 4;
 pub const LONGEST_RECORD: usize = FRAME_HEADER_LENGTH + DATA_LIMIT;
 
 // What the receiver found of a frame.
-#[derive(Clone, Copy)]
+#[derive(Clone, Copy, Debug, PartialEq, Eq)]
 pub enum Quality {
     Good,
     Erred,
@@ -34,7 +34,7 @@ pub enum Quality {
 }
 
 // Whether the station produces frames.
-#[derive(Clone, Copy)]
+#[derive(Clone, Copy, Debug, PartialEq, Eq)]
 pub enum ProductionStatus {
     Running,
     Interrupted,
@@ -42,7 +42,7 @@ pub enum ProductionStatus {
 }
 
 // What a notification tells.
-#[derive(Clone, Copy)]
+#[derive(Clone, Copy, Debug, PartialEq, Eq)]
 pub enum Notification {
     LossOfFrameSynchronization(Time),
     ProductionStatusChange(ProductionStatus),
@@ -50,7 +50,7 @@ pub enum Notification {
 }
 
 // What a record says; of a frame's data, which follow its header, the length.
-#[derive(Clone, Copy)]
+#[derive(Clone, Copy, Debug, PartialEq, Eq)]
 pub enum RecordContent {
     Frame {
         quality: Quality,
@@ -61,7 +61,7 @@ pub enum RecordContent {
 }
 
 // Why a record is not written.
-#[derive(Clone, Copy)]
+#[derive(Clone, Copy, Debug, PartialEq, Eq)]
 pub enum WriteRefusal {
     DataLength,
     BufferTooShort,

@@ -14,7 +14,8 @@ pub const MICROSECOND_LIMIT: u32 = 999;
 pub const TIME_LENGTH: usize = 8;
 
 // A time in the CCSDS day segmented code: day, millisecond of the day, microsecond of the millisecond.
-#[derive(Clone, Copy)]
+// Times are ordered by these numbers in turn.
+#[derive(Clone, Copy, Debug, PartialEq, Eq, PartialOrd, Ord)]
 pub struct Time {
     day: u16,
     millisecond: u32,
@@ -22,17 +23,17 @@ pub struct Time {
     ghost limits: { (millisecond ≤ millisecond_limit) × (microsecond ≤ microsecond_limit) },
 }
 
+// The three numbers of a time, not yet known to be within their limits.
+#[derive(Clone, Copy, Debug, PartialEq, Eq)]
+pub struct TimeNumbers {
+    pub day: u16,
+    pub millisecond: u32,
+    pub microsecond: u32,
+}
+
 // The field of a time that is beyond its limit.
-#[derive(Clone, Copy)]
+#[derive(Clone, Copy, Debug, PartialEq, Eq)]
 pub enum TimeField {
     Millisecond,
     Microsecond,
-}
-
-// How one time stands to another.
-#[derive(Clone, Copy)]
-pub enum TimeOrder {
-    Before,
-    Same,
-    After,
 }

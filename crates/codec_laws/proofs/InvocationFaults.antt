@@ -9,7 +9,7 @@ use Rattle.codec_laws.specs.Laws.{RequestFaultsHaveTheirPlace, FaultOfRequest}
 use Rattle.codec.specs.declared.fault.Fault.{Fault}
 use Rattle.codec.specs.declared.fault.FaultKind.{FaultKind}
 use Rattle.codec.specs.declared.fault.FaultKind.TheVariants.{Short, Mark, Value, Extra}
-use Rattle.codec.proofs.Results.{err_is_not_ok, cond_cases}
+use Rattle.codec.proofs.Results.{cond_cases}
 use Rattle.codec_laws.proofs.Steady.{Allowed, Steady, ok_or_err, same_err, steady_then, steady_cond, steady_value, steady_ok, steady_present}
 use Rattle.codec.proofs.FieldsRead.{block_read}
 use Rattle.codec_laws.proofs.FieldsSteady.{octet_steady, two_octets_steady, value_steady, stamp_steady}
@@ -34,7 +34,7 @@ ending_end at r xs h f e =
     let t = le-ltb at (length (take at xs)) (omega arith) in
     let reads : ending_at (take at xs) at r ≡ Ok r = rw t in
     subst (λ z. Verdict at (λ ys. ending_at ys at r) xs z.kind z.place) (same_err a.1) (omega arith, more, (r, reads)))
-    (λ a. err_is_not_ok f r (sym a.1))
+    (λ a. cc)
     (cond_cases (ltb at (length xs)) _ _ e)
 
 ending_cond : {m : ℕ} {one other : List ℕ → Result Request Fault} (b : Bool) → Ending m one → Ending m other → Ending m (λ xs. cond b (one xs) (other xs))

@@ -12,22 +12,22 @@ use Rattle.codec.specs.declared.invocation.RequestedQuality.{RequestedQuality}
 use Rattle.codec.specs.declared.invocation.RequestedQuality.TheVariants.{GoodOnly, ErredOnly, All}
 use Rattle.codec.specs.declared.invocation.UnbindReason.{UnbindReason}
 use Rattle.codec.specs.declared.invocation.UnbindReason.TheVariants.{End, Suspend, VersionNotSupported, Other}
-use Rattle.codec.proofs.Results.{same_ok, err_is_not_ok, and_then_ok, cond_ok, cond_cases, or_value_fault_ok, octet_of, none_left}
+use Rattle.codec.proofs.Results.{same_ok, and_then_ok, cond_ok, cond_cases, or_value_fault_ok, octet_of}
 use Rattle.codec.proofs.FieldsRead.{Stands, octet_read, two_octets_read, block_read, stamp_read}
 
 requested_quality_octet_lem : (n : ℕ) (q : RequestedQuality) → requested_quality_of n ≡ Some q → n ≡ requested_quality_octet q
 requested_quality_octet_lem n q =
-    octet_of requested_quality_octet n GoodOnly _ (octet_of requested_quality_octet n ErredOnly _ (octet_of requested_quality_octet n All _ none_left))
+    octet_of requested_quality_octet n GoodOnly _ (octet_of requested_quality_octet n ErredOnly _ (octet_of requested_quality_octet n All _ (λ none. cc)))
 
 reason_octet_lem : (n : ℕ) (r : UnbindReason) → reason_of n ≡ Some r → n ≡ reason_octet r
 reason_octet_lem n r =
     octet_of reason_octet n End _ (octet_of reason_octet n Suspend _
-    (octet_of reason_octet n VersionNotSupported _ (octet_of reason_octet n Other _ none_left)))
+    (octet_of reason_octet n VersionNotSupported _ (octet_of reason_octet n Other _ (λ none. cc))))
 
 -- a request that was read to its end
 ending_read : (xs : List ℕ) (at : ℕ) (r : Request) {s : Request} → ending_at xs at r ≡ Ok s → (drop at xs ≡ []) × (r ≡ s)
 ending_read xs at r {s} h =
-    ⊎_elim (λ a. err_is_not_ok _ s a.1) (λ a. (drop_all at xs (ltb-false at (length xs) a.0), same_ok a.1))
+    ⊎_elim (λ a. cc) (λ a. (drop_all at xs (ltb-false at (length xs) a.0), same_ok a.1))
     (cond_cases (ltb at (length xs)) _ _ h)
 
 -- a well-formed request whose layout the octets are

@@ -6,23 +6,12 @@ use Rattle.codec.specs.Limits.{two_octet_limit, shortest_identifier}
 use Rattle.codec.specs.Times.{Stamp, two_octets, stamp_octets}
 use Rattle.codec.specs.Fields.{two_octets_at}
 use Rattle.codec.specs.Invocations.{Request, start, stop, bind, unbind, abort, layout, WellFormedRequest, TimelyIf, invocation_mark, invocation_header, start_operation, stop_operation, bind_operation, unbind_operation, abort_operation, requested_quality_octet, reason_octet, stamp_if_octets}
-use Rattle.codec.specs.InvocationReading.{requested_quality_of, reason_of, stamp_if_at, stamp_if_length, ending_at, operation_in, request_in}
+use Rattle.codec.specs.InvocationReading.{stamp_if_at, stamp_if_length, ending_at, operation_in, request_in}
+use Rattle.codec.specs.contracts.invocation.values.RequestedQualityOctetValue.TheImpl as requested_quality_laws
+use Rattle.codec.specs.contracts.invocation.values.UnbindReasonOctetValue.TheImpl as reason_laws
 use Rattle.codec.specs.declared.invocation.RequestedQuality.{RequestedQuality}
-use Rattle.codec.specs.declared.invocation.RequestedQuality.TheVariants.{GoodOnly, ErredOnly, All}
 use Rattle.codec.specs.declared.invocation.UnbindReason.{UnbindReason}
-use Rattle.codec.specs.declared.invocation.UnbindReason.TheVariants.{End, Suspend, VersionNotSupported, Other}
 use Rattle.codec.proofs.FieldsWritten.{octet_written, two_octets_written, block_written, behind, stamp_written}
-
-requested_quality_back : (q : RequestedQuality) → requested_quality_of (requested_quality_octet q) ≡ Some q
-requested_quality_back GoodOnly = refl
-requested_quality_back ErredOnly = refl
-requested_quality_back All = refl
-
-reason_back : (r : UnbindReason) → reason_of (reason_octet r) ≡ Some r
-reason_back End = refl
-reason_back Suspend = refl
-reason_back VersionNotSupported = refl
-reason_back Other = refl
 
 stamp_if_length_lem : (o : Option Stamp) → length (stamp_if_octets o) ≡ stamp_if_length o
 stamp_if_length_lem None = refl
@@ -63,7 +52,7 @@ start_written ys i q from until e g =
     let e1 = id_written ys body start_operation i e g.0 in
     let f2 = body_stands ys body start_operation i e g.0 in
     let e2 = octet_written ys (stamp_if_octets from ++ stamp_if_octets until) (requested_quality_octet q) 5 f2 in
-    let e3 = requested_quality_back q in
+    let e3 = (requested_quality_laws.given_back-value).it q in
     let f4 : drop 6 ys ≡ stamp_if_octets from ++ stamp_if_octets until = behind ys (requested_quality_octet q ∷ []) (stamp_if_octets from ++ stamp_if_octets until) 5 1 f2 refl in
     let e4 = stamp_if_written from ys (stamp_if_octets until) 6 f4 g.1 in
     let f5 : drop (6 + stamp_if_length from) ys ≡ stamp_if_octets until ++ [] = behind ys (stamp_if_octets from) (stamp_if_octets until) 6 (stamp_if_length from) f4 (stamp_if_length_lem from) ∙ sym (append-nil (stamp_if_octets until)) in
@@ -107,7 +96,7 @@ unbind_written ys i reason e g =
     let e1 = id_written ys body unbind_operation i e g in
     let f2 = body_stands ys body unbind_operation i e g in
     let e2 = octet_written ys [] (reason_octet reason) 5 f2 in
-    let e3 = reason_back reason in
+    let e3 = (reason_laws.given_back-value).it reason in
     let e4 = ending_written ys 6 (unbind i reason) (behind ys body [] 5 1 f2 refl) in
     e0 ∙ rw (e1, e2, e3) e4
 

@@ -6,9 +6,9 @@ use Rattle.std.proofs.lemmas.Bool.{leb-true, le-leb, and_from}
 use Rattle.std.proofs.lemmas.List.{append-nil}
 use Rattle.codec.specs.Limits.{time_length, day_limit, millisecond_limit, microsecond_limit, data_limit, frame_header_length}
 use Rattle.codec.specs.Times.{Stamp, timely}
-use Rattle.codec.specs.Fields.{octet_at, two_octets_at, four_octets_at, two_octet_number, stamp_at, zero_stamp_at}
+use Rattle.codec.specs.Fields.{octet_at, two_octets_at, four_octets_at, two_octet_number, stamp_at, zero_stamp_at, zero_at}
 use Rattle.codec.specs.Records.{Record, frame, loss, status, end_of_data, encode, WellFormed, frame_mark, notification_mark, loss_type, status_type, end_of_data_type}
-use Rattle.codec.specs.RecordReading.{Content, quality_at, status_at, zero_at, data_length_at, frame_at, loss_at, status_change_at, end_of_data_at, notification_at, content_at, record_of, record_at, whole, one_record}
+use Rattle.codec.specs.RecordReading.{Content, quality_at, status_at, data_length_at, frame_at, loss_at, status_change_at, end_of_data_at, notification_at, content_at, record_of, record_at, whole, one_record}
 use Rattle.codec.specs.declared.fault.Fault.{Fault}
 use Rattle.codec.proofs.Results.{same_ok, and_then_ok, cond_ok, cond_cases}
 use Rattle.codec.proofs.FieldsRead.{block_read}
@@ -100,9 +100,9 @@ whole_some xs (Ok s) r h =
     ⊎_elim (λ a.
     let same : s ≡ r = cc in
     (ap Ok same, ap encode (sym same) ∙ (bytes_eq-Decides (encode s) xs).0 a.0))
-    (λ a. let z : ◌≡◌ {A = ℕ} 0 1 = cc in absurd (omega arith))
+    (λ a. cc)
     (cond_cases (bytes_eq (encode s) xs) _ _ h)
-whole_some xs (Err e) r h = let z : ◌≡◌ {A = ℕ} 0 1 = cc in absurd (omega arith)
+whole_some xs (Err e) r h = cc
 
 -- octets that are one record are a well-formed record's
 pub one_record_read : (xs : List ℕ) (r : Record) → one_record xs ≡ Some r → WellFormed r × (encode r ≡ xs)

@@ -9,7 +9,7 @@ use Rattle.codec_laws.specs.Laws.{RecordFaultsHaveTheirPlace, FaultOfRecords}
 use Rattle.codec.specs.declared.fault.Fault.{Fault}
 use Rattle.codec.specs.declared.fault.FaultKind.{FaultKind}
 use Rattle.codec.specs.declared.fault.FaultKind.TheVariants.{Short, Mark, Value, Extra}
-use Rattle.codec.proofs.Results.{err_is_not_ok, cond_cases}
+use Rattle.codec.proofs.Results.{cond_cases}
 use Rattle.codec_laws.proofs.Steady.{Allowed, ok_or_err, same_err}
 use Rattle.codec.proofs.RecordsWritten.{encode_some}
 use Rattle.codec_laws.proofs.RecordsSteady.{record_steady}
@@ -24,7 +24,7 @@ stepped : (n : ℕ) (ys : List ℕ) (at : ℕ) (read : Result Record Fault) → 
 stepped n ys at read h e = let t = lt-leb (length ys) at h in rw (t, e)
 
 prepended_err : (r : Record) (rest : Result (List Record) Fault) {f : Fault} → prepended r rest ≡ Err f → rest ≡ Err f
-prepended_err r (Ok rs) {f} h = err_is_not_ok f (r ∷ rs) (sym h)
+prepended_err r (Ok rs) {f} h = cc
 prepended_err r (Err e) h = ap Err (same_err h)
 
 module _ (xs : List ℕ) where
@@ -82,9 +82,9 @@ module _ (xs : List ℕ) where
   lifted (suc n) at r kind place e inside turns v = there n at r e inside kind place (v n (omega (arith, encode_some r)))
 
   records_fault : (n at : ℕ) (f : Fault) → at ≤ length xs → records_from n xs at ≡ Err f → (m : ℕ) → f.place ≤ at + m → Verdict m at f.kind f.place
-  records_fault zero at f inside h m turns = err_is_not_ok f [] (sym h)
+  records_fault zero at f inside h m turns = cc
   records_fault (suc n) at f inside h m turns =
-      ⊎_elim (λ a. err_is_not_ok f [] (sym a.1))
+      ⊎_elim (λ a. cc)
       (λ a.
       ⊎_elim (λ b.
       let r = b.0 in

@@ -7,7 +7,7 @@ use Rattle.codec.specs.Octets.{Octets}
 use Rattle.codec.specs.Records.{Record, encode, WellFormed}
 use Rattle.codec.specs.RecordReading.{record_at, records_from, records_in, prepended}
 use Rattle.codec.specs.declared.fault.Fault.{Fault}
-use Rattle.codec.proofs.Results.{same_ok, err_is_not_ok, and_then_ok, cond_cases}
+use Rattle.codec.proofs.Results.{same_ok, and_then_ok, cond_cases}
 use Rattle.codec.proofs.FieldsWritten.{behind}
 use Rattle.codec.proofs.RecordsWritten.{record_written, encode_some}
 use Rattle.codec.proofs.RecordsRead.{record_read}
@@ -35,7 +35,7 @@ records_written rs g = records_from_lem rs (length (flat_map encode rs)) (flat_m
 
 prepended_ok : (r : Record) (rest : Result (List Record) Fault) {rs : List Record} → prepended r rest ≡ Ok rs → (ss : List Record) × (rest ≡ Ok ss) × (r ∷ ss ≡ rs)
 prepended_ok r (Ok ss) h = (ss, refl, same_ok h)
-prepended_ok r (Err e) {rs} h = err_is_not_ok e rs h
+prepended_ok r (Err e) {rs} h = cc
 
 module _ (xs : List ℕ) (octets : Octets xs) where
   abbrev Whole : ℕ → List Record → Type 0

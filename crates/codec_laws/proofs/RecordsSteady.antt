@@ -2,8 +2,9 @@
 use Rattle.std.proofs.Common.{◌≡◌, ℕ, ◌+◌, ◌<◌, ◌≤◌, eqb, List, length, take, drop, sym, refl, ap, ◌∙◌, arith}
 use Rattle.std.proofs.lemmas.List.{take-append-drop, drop-append-le, take-append-le, length-drop, length-take-le}
 use Rattle.codec.specs.Limits.{time_length, frame_header_length}
+use Rattle.codec.specs.Fields.{zero_at}
 use Rattle.codec.specs.Records.{encode, frame, frame_mark, notification_mark, loss_type, status_type, end_of_data_type, data_length_allowed}
-use Rattle.codec.specs.RecordReading.{Content, frame_content, loss_content, status_content, end_content, size, quality_of, status_of, quality_at, status_at, zero_at, data_length_at, frame_at, loss_at, status_change_at, end_of_data_at, notification_at, content_at, record_of, record_at}
+use Rattle.codec.specs.RecordReading.{Content, frame_content, loss_content, status_content, end_content, size, quality_of, status_of, quality_at, status_at, data_length_at, frame_at, loss_at, status_change_at, end_of_data_at, notification_at, content_at, record_of, record_at}
 use Rattle.codec_laws.proofs.Steady.{Steady, steady_then, steady_cond, steady_value, steady_mark, steady_ok, steady_present, steady_from}
 use Rattle.codec_laws.proofs.FieldsSteady.{octet_steady, two_octets_steady, value_steady, stamp_steady, zero_stamp_steady}
 use Rattle.codec.proofs.Contents.{size_kept}

@@ -6,7 +6,7 @@ use Rattle.codec.specs.Fields.{fault, present, and_then}
 use Rattle.codec.specs.declared.fault.Fault.{Fault}
 use Rattle.codec.specs.declared.fault.FaultKind.{FaultKind}
 use Rattle.codec.specs.declared.fault.FaultKind.TheVariants.{Short, Mark, Value, Extra}
-use Rattle.codec.proofs.Results.{same_ok, err_is_not_ok, and_then_ok, cond_ok}
+use Rattle.codec.proofs.Results.{same_ok, and_then_ok, cond_ok}
 
 -- where a fault may lie in an input of some length whose mark stands at a place
 abbrev pub Allowed : ℕ → ℕ → FaultKind → ℕ → Type 0
@@ -85,16 +85,16 @@ module _ (mark : ℕ) where
   pub steady_value : {X : Type 0} {m : ℕ} {end : X → ℕ} (at : ℕ) → mark < at → at < m → Steady mark m (λ xs. Err (fault Value at)) end
   steady_value {X} {m} at low high = record {
     sound = λ xs h f e. subst (λ z. Allowed mark (length xs) z.kind z.place) (same_err e) (low, omega arith);
-    far = λ xs h x e. err_is_not_ok _ x e;
-    kept = λ xs p h k x e l. err_is_not_ok _ x e;
+    far = λ xs h x e. cc;
+    kept = λ xs p h k x e l. cc;
     cut = λ xs p h k. inl refl;
   }
 
   pub steady_mark : {X : Type 0} {m : ℕ} {end : X → ℕ} → mark < m → Steady mark m (λ xs. Err (fault Mark mark)) end
   steady_mark {X} {m} high = record {
     sound = λ xs h f e. subst (λ z. Allowed mark (length xs) z.kind z.place) (same_err e) (refl, omega arith);
-    far = λ xs h x e. err_is_not_ok _ x e;
-    kept = λ xs p h k x e l. err_is_not_ok _ x e;
+    far = λ xs h x e. cc;
+    kept = λ xs p h k x e l. cc;
     cut = λ xs p h k. inl refl;
   }
 
@@ -102,7 +102,7 @@ module _ (mark : ℕ) where
   pub steady_ok : {X : Type 0} {m : ℕ} {end : X → ℕ} (value : List ℕ → X) → ((xs : List ℕ) → m ≤ length xs → end (value xs) ≡ m)
       → ((xs : List ℕ) (p : ℕ) → m ≤ p → p ≤ length xs → value (take p xs) ≡ value xs) → Steady mark m (λ xs. Ok (value xs)) end
   steady_ok {X} {m} {end} value ends same = record {
-    sound = λ xs h f e. err_is_not_ok f (value xs) (sym e);
+    sound = λ xs h f e. cc;
     far = λ xs h x e. subst (λ z. (m ≤ end z) × (end z ≤ length xs)) (same_ok e) (omega (arith, ends xs h), omega (arith, ends xs h));
     kept = λ xs p h k x e l. ap Ok (same xs p h k) ∙ e;
     cut = λ xs p h k. inl (ap Ok (same xs p h k));
@@ -114,7 +114,7 @@ module _ (mark : ℕ) where
   steady_present {X} {end} at n value ends same = record {
     sound = λ xs h f e.
         ⊎_elim (λ short. let t = lt-leb (at + n) (length xs) short in subst (λ z. Allowed mark (length xs) z.kind z.place) (same_err (sym (missing xs t) ∙ e)) refl)
-        (λ whole. err_is_not_ok f (value xs) (sym e ∙ found xs (le-leb (at + n) (length xs) whole)))
+        (λ whole. let there = found xs (le-leb (at + n) (length xs) whole) in cc)
         (cases_lt (length xs) (at + n));
     far = λ xs h x e.
         let a = cond_ok (leb (at + n) (length xs)) (Ok (value xs)) _ e in

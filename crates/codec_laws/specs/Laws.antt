@@ -2,6 +2,8 @@
 use Rattle.std.specs.Prelude.{◌≡◌, ℕ, ◌<◌, ◌≤◌, ◌⊎◌, List, [], ◌∷◌, length, take, Ok, Err}
 use Rattle.std.specs.List.{flat_map, AllByRecursion}
 use Rattle.codec.specs.Octets.{Octets}
+use Rattle.std.specs.Ordering.{ordering_reverse}
+use Rattle.std.specs.declared.cmp.Ordering.TheVariants.{Less, Equal, Greater}
 use Rattle.codec.specs.Times.{Stamp, compared, checked_stamp, stamp_octets}
 use Rattle.codec.specs.Fields.{fault}
 use Rattle.codec.specs.Records.{Record, frame, end_of_data, encode, WellFormed, write_answer}
@@ -16,8 +18,6 @@ use Rattle.codec.specs.declared.record.Quality.{Quality}
 use Rattle.codec.specs.declared.record.Quality.TheVariants.{Good}
 use Rattle.codec.specs.declared.record.WriteRefusal.TheVariants.{DataLength}
 use Rattle.codec.specs.declared.time.TimeField.TheVariants.{Millisecond, Microsecond}
-use Rattle.codec.specs.declared.time.TimeOrder.{TimeOrder}
-use Rattle.codec.specs.declared.time.TimeOrder.TheVariants.{Before, Same, After}
 
 -- Reading the joined octets of well-formed records gives those records.
 abbrev pub RecordsReadBack : Type 0
@@ -39,20 +39,14 @@ RequestsReadBack = (r : Request) → WellFormedRequest r → request_in (layout 
 abbrev pub RequestsWriteBack : Type 0
 RequestsWriteBack = (xs : List ℕ) (r : Request) → Octets xs → request_in xs ≡ Ok r → WellFormedRequest r × (layout r ≡ xs)
 
--- The order turned round.
-abbrev pub opposite : TimeOrder → TimeOrder
-opposite Before = After
-opposite Same = Same
-opposite After = Before
-
 -- Any two times compare; swapped they give the opposite; the order is transitive; two that compare the same are
 -- the same, and have the same octets.
 pub record TimesAreOrdered : Type 0 where
-  pub total : (a b : Stamp) → (compared a b ≡ Before) ⊎ ((compared a b ≡ Same) ⊎ (compared a b ≡ After))
-  pub swapped : (a b : Stamp) → compared b a ≡ opposite (compared a b)
-  pub transitive : (a b c : Stamp) → compared a b ≡ Before → compared b c ≡ Before → compared a c ≡ Before
-  pub same : (a b : Stamp) → compared a b ≡ Same → a ≡ b
-  pub octets : (a b : Stamp) → compared a b ≡ Same → stamp_octets a ≡ stamp_octets b
+  pub total : (a b : Stamp) → (compared a b ≡ Less) ⊎ ((compared a b ≡ Equal) ⊎ (compared a b ≡ Greater))
+  pub swapped : (a b : Stamp) → compared b a ≡ ordering_reverse (compared a b)
+  pub transitive : (a b c : Stamp) → compared a b ≡ Less → compared b c ≡ Less → compared a c ≡ Less
+  pub same : (a b : Stamp) → compared a b ≡ Equal → a ≡ b
+  pub octets : (a b : Stamp) → compared a b ≡ Equal → stamp_octets a ≡ stamp_octets b
 
 -- Where a fault of a PDU lies, and what stands before it. Too short: at the end. A wrong mark: behind records that
 -- read well. A wrong value: before its field the octets have no fault but that they end there.

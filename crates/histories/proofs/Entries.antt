@@ -44,7 +44,7 @@ abbrev pub Line : List Record → List Acceptance → Type 0
 Line rs xs = Rises 0 xs (length rs) × AllByRecursion (Genuine rs) xs
 
 accepted_more : (rs : List Record) (r x : Record) (n : ℕ) → accepted_as rs n ≡ Some x → accepted_as (rs ++ r ∷ []) n ≡ Some x
-accepted_more [] r x n e = let z : ◌≡◌ {A = ℕ} 0 1 = cc in absurd (omega arith)
+accepted_more [] r x n e = cc
 accepted_more (y ∷ rs) r x zero e = e
 accepted_more (y ∷ rs) r x (suc n) e = accepted_more rs r x n e
 

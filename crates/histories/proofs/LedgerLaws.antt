@@ -1,12 +1,12 @@
 -- What a ledger keeps by itself: order of acceptance, and what the run that lasts has taken.
 use Rattle.std.proofs.Common.{◌≡◌, ℕ, suc, true, false, ◌⊎◌, List, [], ◌∷◌, ◌++◌, map, length, take, drop, Some, None, filter, sym, refl, ap, ◌∙◌, subst, inl, inr, append_assoc, append-nil, arith}
 use Rattle.std.specs.List.{AllByRecursion}
-use Rattle.std.proofs.lemmas.Bool.{cond-true, cond-false, cond_both, false≢true}
+use Rattle.std.proofs.lemmas.Bool.{cond-true, cond-false, false≢true}
 use Rattle.std.proofs.lemmas.List.Elements.{filter-append}
 use Rattle.std.proofs.ByRecursion.{All-append, All-push, All-weaker}
 use Rattle.codec.specs.Records.{Record}
 use Rattle.histories.specs.Sessions.{Phase, unbound, active, is_active, Selection, late, selected}
-use Rattle.histories.specs.Ledger.{Acceptance, Entry, Ledger, blank, accept, entry, take_oldest, pass_oldest, end_run, older, count_tick, hand_over, begin_run, lose_association, set_phase, set_pending, set_passed, set_untaken, set_pdus, acceptances, own_acceptances}
+use Rattle.histories.specs.Ledger.{Acceptance, Entry, Ledger, blank, accept, entry, take_oldest, pass_oldest, end_run, older, hand_over, begin_run, lose_association, set_phase, set_pending, set_passed, set_untaken, set_pdus, acceptances, own_acceptances}
 use Rattle.histories.specs.Statements.{RisesFrom, due, Complete}
 use Rattle.histories.proofs.Entries.{Line, line_cut, line_push, Genuine, rises_front, all_front, all_back, acceptances_append, own_append, acceptances_older, own_older, Upto, own_none, own_one, is_selected, InTime, LateFirst, late_first_push, due_late, due_append}
 
@@ -145,9 +145,6 @@ lawful_older l k =
       at_end = k.at_end;
       taking = λ e. let t = k.taking e in record { taken = t.taken; offered = t.offered; in_time = t.in_time; entered = t.entered ∙ sym same-own };
     }
-
-pub lawful_tick : (l : Ledger) → Lawful l → Lawful (count_tick l)
-lawful_tick l k = cond_both (is_active l.phase) (map older l.pending) l.pending (λ (x : List Entry). Lawful (set_pending x l)) (λ _. lawful_older l k) (λ _. k)
 
 pub lawful_hand : (l : Ledger) → Lawful l → Lawful (hand_over l)
 lawful_hand l k =

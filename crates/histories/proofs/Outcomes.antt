@@ -133,17 +133,17 @@ well_formed (status v) h k = tt
 well_formed end_of_data h k = tt
 
 frame_accepted : (q : Option Quality) (t : Stamp) (d : List ℕ) (r : Record) → as_frame q t d ≡ Some r → is_accepted r ≡ true
-frame_accepted None t d r e = let z : ◌≡◌ {A = ℕ} 0 1 = cc in absurd (omega arith)
+frame_accepted None t d r e = cc
 frame_accepted (Some q) t d r e = let same-record : frame q t d ≡ r = cc in ap (λ (x : Record). is_accepted x) (sym same-record)
 
 status_accepted : (v : Option ProductionStatus) (r : Record) → as_status v ≡ Some r → is_accepted r ≡ true
-status_accepted None r e = let z : ◌≡◌ {A = ℕ} 0 1 = cc in absurd (omega arith)
+status_accepted None r e = cc
 status_accepted (Some v) r e = let same-record : status v ≡ r = cc in ap (λ (x : Record). is_accepted x) (sym same-record)
 
 note_accepted : (type : ℕ) (t : Stamp) (v : ℕ) (r : Record) → as_note type t v ≡ Some r → is_accepted r ≡ true
 note_accepted zero t v r e = let same-record : loss t ≡ r = cc in ap (λ (x : Record). is_accepted x) (sym same-record)
 note_accepted (suc zero) t v r e = status_accepted (status_of v) r e
-note_accepted (suc (suc type)) t v r e = let z : ◌≡◌ {A = ℕ} 0 1 = cc in absurd (omega arith)
+note_accepted (suc (suc type)) t v r e = cc
 
 module _ (s : State) where
   receives : (c : Call) (n : ℕ) → ((r : Record) → argument c ≡ Some r → is_accepted r ≡ true) → ComesBy (Receives s c) (receive_by s.session s.frames n (argument c))

@@ -25,8 +25,8 @@ records_append [] qs rs ss e f = let none : [] ≡ rs = cc in f ∙ ap {B = Opti
 records_append (p ∷ ps) qs rs ss e f = go (records_in p) (records_of ps) (records_of (ps ++ qs)) e (λ more h. records_append ps qs more ss h f)
   where
     go : (a : Result (List Record) Fault) (b c : Option (List Record)) → join_readings a b ≡ Some rs → ((more : List Record) → b ≡ Some more → c ≡ Some (more ++ ss)) → join_readings a c ≡ Some (rs ++ ss)
-    go (Err x) b c h k = let z : ◌≡◌ {A = ℕ} 0 1 = cc in absurd (omega arith)
-    go (Ok x) None c h k = let z : ◌≡◌ {A = ℕ} 0 1 = cc in absurd (omega arith)
+    go (Err x) b c h k = cc
+    go (Ok x) None c h k = cc
     go (Ok x) (Some y) c h k =
         let same : x ++ y ≡ rs = cc in
         ap (λ (t : Option (List Record)). join_readings (Ok x) t) (k y refl)

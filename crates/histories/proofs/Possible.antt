@@ -30,7 +30,7 @@ dropped q x xs e = record {
 }
 
 oldest_dropped : (q : Queue) (h : List (List ℕ)) → q.held ≡ h → (r : Record) → oldest h ≡ Some r → Can q drop_oldest
-oldest_dropped q [] e r is = let z : ◌≡◌ {A = ℕ} 0 1 = cc in absurd (omega arith)
+oldest_dropped q [] e r is = cc
 oldest_dropped q (x ∷ xs) e r is = dropped q x xs e
 
 abbrev Possible : State → Outcome → Type 0

@@ -51,7 +51,7 @@ Of P s = P s.settings s.session s.frames
 -- the frame buffer's oldest is a record
 is_record : (us : List Acceptance) → AllByRecursion WellAccepted us → oldest (map octets_of us) ≡ None → map octets_of us ≡ []
 is_record [] w e = refl
-is_record (a ∷ more) w e = let back = one_record_written a.value w.0.0 in let z : ◌≡◌ {A = ℕ} 0 1 = cc in absurd (omega arith)
+is_record (a ∷ more) w e = let back = one_record_written a.value w.0.0 in cc
 
 none_oldest : (l : Ledger) (s : State) → Inv l s → oldest s.frames.held ≡ None → s.frames.held ≡ []
 none_oldest l s i = subst (λ (h : List (List ℕ)). oldest h ≡ None → h ≡ []) (sym i.framed.are) (is_record l.untaken i.framed.well)
@@ -149,9 +149,9 @@ finished l s i m = record {
 
 ticks_finish : {cs : List Call} {es es' : List Event} {s s' : State} → Served cs es s es' s' → History es s → (n : ℕ) → cs ≡ replicate n tick → Of (Ticking n) s → Finished (ledger es')
 ticks_finish (rests {es = es} {s = s}) h zero c m = finished (ledger es) s (history_inv h) m
-ticks_finish rests h (suc n) c m = let z : ◌≡◌ {A = ℕ} 0 1 = cc in absurd (omega arith)
+ticks_finish rests h (suc n) c m = cc
 ticks_finish (collects {s = s} {t = u} k e is st more) h n c m = ticks_finish more (goes_on e h st) n c (collected (Ticking n) s u e k is st m)
-ticks_finish (calls e empty st more) h zero c m = let z : ◌≡◌ {A = ℕ} 0 1 = cc in absurd (omega arith)
+ticks_finish (calls e empty st more) h zero c m = cc
 ticks_finish (calls {cs = cs} {es = es} {s = s} {t = u} e empty st more) h (suc n) c m =
     let is : e.call ≡ tick = cc in
     let rest : cs ≡ replicate n tick = cc in
@@ -164,7 +164,7 @@ settled s n m one limit = (m.0, elim m.1 [ inl e ↦ inl e | inr b ↦ inr (nil_
 moves_finish : {cs : List Call} {es es' : List Event} {s s' : State} → Served cs es s es' s' → History es s → (k n : ℕ) → cs ≡ replicate k move ++ replicate n tick → 1 ≤ n → s.settings.latency_limit ≤ n
     → Of (Moving k) s → Finished (ledger es')
 moves_finish (rests {s = s}) h zero n c one limit m = ticks_finish rests h n c (settled s n m one limit)
-moves_finish rests h (suc k) n c one limit m = let z : ◌≡◌ {A = ℕ} 0 1 = cc in absurd (omega arith)
+moves_finish rests h (suc k) n c one limit m = cc
 moves_finish (collects {s = s} {t = u} j e is st more) h k n c one limit m =
     moves_finish more (goes_on e h st) k n c one (subst (λ (g : Settings). g.latency_limit ≤ n) (sym st.settings) limit) (collected (Moving k) s u e j is st m)
 moves_finish (calls {s = s} e empty st more) h zero n c one limit m = ticks_finish (calls e empty st more) h n c (settled s n m one limit)

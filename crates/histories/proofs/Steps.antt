@@ -289,7 +289,7 @@ module _ (l : Ledger) (s : State) (i : Inv l s) where
 
   pub looked : (P : Record → Type 0) → ((a : Acceptance) (more : List Acceptance) → l.untaken ≡ a ∷ more → Looks s a.value → P a.value)
       → (r : Record) → Looks s r → (us : List Acceptance) → l.untaken ≡ us → P r
-  looked P p r k [] u = let e = oldest_of r k [] u in let z : ◌≡◌ {A = ℕ} 0 1 = cc in absurd (omega arith)
+  looked P p r k [] u = let e = oldest_of r k [] u in cc
   looked P p r k (a ∷ more) u =
       let back = one_record_written a.value (subst (λ (x : List Acceptance). AllByRecursion WellAccepted x) u i.framed.well).0.0 in
       let e = oldest_of r k (a ∷ more) u in

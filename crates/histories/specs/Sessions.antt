@@ -1,7 +1,6 @@
 -- A provider's own part: what it was opened with, the phase of its association, what START asked for, and its transfer buffer.
 use Rattle.std.specs.Prelude.{Bool, true, false, ◌&&◌, not, List, [], ◌∷◌, ◌++◌, ℕ, Option, Some, None}
-use Rattle.codec.specs.declared.time.TimeOrder.{TimeOrder}
-use Rattle.codec.specs.declared.time.TimeOrder.TheVariants.{Before, Same, After}
+use Rattle.std.specs.Ordering.{is_lt}
 use Rattle.codec.specs.declared.record.Quality.{Quality}
 use Rattle.codec.specs.declared.record.Quality.TheVariants.{Good, Erred, Undetermined}
 use Rattle.codec.specs.declared.record.ProductionStatus.{ProductionStatus}
@@ -48,19 +47,14 @@ requests ErredOnly Erred = true
 requests ErredOnly Undetermined = false
 requests All q = true
 
-abbrev pub is_before : TimeOrder → Bool
-is_before Before = true
-is_before Same = false
-is_before After = false
-
 -- The first time is before the second; of a time that is not given nothing is said.
 abbrev pub before_start : Stamp → Option Stamp → Bool
 before_start t None = false
-before_start t (Some s) = is_before (compared t s)
+before_start t (Some s) = is_lt (compared t s)
 
 abbrev pub after_stop : Option Stamp → Stamp → Bool
 after_stop None t = false
-after_stop (Some s) t = is_before (compared s t)
+after_stop (Some s) t = is_lt (compared s t)
 
 -- A frame is selected by its quality and its time; a notification always is.
 unfoldable pub selected : Selection → Record → Bool
@@ -80,7 +74,7 @@ late s end_of_data = false
 abbrev pub empty_span : Option Stamp → Option Stamp → Bool
 empty_span None until = false
 empty_span (Some from) None = false
-empty_span (Some from) (Some until) = not (is_before (compared from until))
+empty_span (Some from) (Some until) = not (is_lt (compared from until))
 
 -- The state of the association: the last START's selection; whether end of data has been put in since (the end mark); the transfer buffer with the age of its contents in active ticks; the production status last accepted.
 pub record Session : Type 0 where

@@ -1,10 +1,13 @@
 ghost use Rattle.std.specs.Prelude.{◌≡◌, ◌≤◌, length};
 ghost use Rattle.std.specs.Str.{bytes_eq};
+ghost use Rattle.std.specs.Ordering.{on};
+ghost use Rattle.std.specs.Cmp.{partial_equiv_from_equiv};
+ghost use Rattle.std.proofs.lemmas.Cmp.{nat_list_eq_equiv, on_equiv};
 ghost use Rattle.codec.specs.Limits.{shortest_identifier, longest_identifier};
 ghost use Rattle.codec.specs.Invocations.{named, named_if, identifier_from};
 
 use super::{Identifier, LONGEST_IDENTIFIER, SHORTEST_IDENTIFIER};
-use crate::blocks::{place_block, same_block};
+use crate::blocks::place_block;
 
 impl Identifier {
     // The identifier of these octets, if an identifier may have so many.
@@ -36,11 +39,19 @@ impl Identifier {
     {
         &self.octets[0..self.count]
     }
+}
 
-    // Whether the two have the same octets.
-    pub fn same(&self, other: &Identifier) -> bool
-        ensures { result ≡ bytes_eq (named self.now) (named other.now) }
-    {
-        same_block(self.octets(), other.octets())
+// Two identifiers are equal where they have the same octets.
+impl PartialEq for Identifier {
+    ghost eq = { on named bytes_eq };
+
+    ghost laws = { partial_equiv_from_equiv (on_equiv named nat_list_eq_equiv) };
+
+    fn eq(&self, other: &Identifier) -> bool {
+        self.octets() == other.octets()
     }
+}
+
+impl Eq for Identifier {
+    ghost laws = { on_equiv named nat_list_eq_equiv };
 }

@@ -1,15 +1,11 @@
 ghost use Rattle.std.specs.Prelude.{◌≡◌, ◌+◌, ◌≤◌, length, IfOk};
-ghost use Rattle.codec.specs.RecordReading.{said, said_or, said_if, content_or, content_if, size, record_at, one_record, quality_at, status_at, zero_at, data_length_at, frame_at, loss_at, status_change_at, end_of_data_at, notification_at, content_at};
+ghost use Rattle.codec.specs.RecordReading.{said, said_or, said_if, content_or, content_if, size, record_at, one_record, data_length_at, frame_at, loss_at, status_change_at, end_of_data_at, notification_at, content_at};
 
 use super::marks::{END_OF_DATA_TYPE, FRAME_MARK, LOSS_TYPE, NOTIFICATION_MARK, STATUS_TYPE};
-use super::{
-    DATA_LIMIT, FRAME_HEADER_LENGTH, NOTIFICATION_LENGTH, Notification, ProductionStatus, Quality,
-    RecordContent,
-};
-use crate::fault::Fault;
-use crate::fields::{octet_at, two_octets_at};
+use super::{DATA_LIMIT, FRAME_HEADER_LENGTH, NOTIFICATION_LENGTH, Notification, RecordContent};
+use crate::fault::{Fault, FaultKind};
+use crate::position::Position;
 use crate::time::TIME_LENGTH;
-use crate::time::read::{time_at, zero_time_at};
 
 impl RecordContent {
     // How many octets the record has.
@@ -27,143 +23,99 @@ impl RecordContent {
 pub fn record_content(octets: &[u8]) -> Result<RecordContent, Fault>
     ensures { said_or result ≡ content_or (record_at octets.now 0) }
 {
-    content_at(octets, 0)
+    let start = Position {
+        input: octets,
+        place: 0,
+    };
+    start.content()
 }
 
 // What the record says that the octets are, if they are exactly one.
+#[tactic(auto, using(crate::proofs::Contents::none_faulty))]
 pub fn one_record(octets: &[u8]) -> Option<RecordContent>
     ensures { said_if result ≡ content_if (one_record octets.now) }
 {
-    match content_at(octets, 0) {
-        Ok(content) => {
-            if content.record_length() == octets.len() {
-                Some(content)
-            } else {
-                None
-            }
+    let start = Position {
+        input: octets,
+        place: 0,
+    };
+    let Ok(content) = start.content() else {
+        return None;
+    };
+    if content.record_length() != octets.len() {
+        return None;
+    }
+    Some(content)
+}
+
+// That the record fits is what one reader hands to the next: it speaks of the answer, and not of the position alone.
+impl Position<'_> {
+    // A data length, and that so many octets follow it.
+    fn data_length(self) -> Result<u16, Fault>
+        ensures { result ≡ data_length_at self.entry.input.now self.entry.place }
+    {
+        let length = self.two_octets()?;
+        if length < 1 || length as usize > DATA_LIMIT {
+            return Err(self.wrong_value());
         }
-        Err(_) => None,
+        if self.input.len() - self.after(2).place < length as usize {
+            return Err(self.short());
+        }
+        Ok(length)
     }
-}
 
-fn quality_at(input: &[u8], place: usize) -> Result<Quality, Fault>
-    requires { place ≤ length input.now }
-    ensures { result ≡ quality_at input.now place }
-{
-    match Quality::from_octet(octet_at(input, place)?) {
-        Some(quality) => Ok(quality),
-        None => Err(Fault::value(place)),
+    // The frame whose mark stands here.
+    fn frame(self) -> Result<RecordContent, Fault>
+        requires { self.place + 2 ≤ length self.input.now }
+        ensures content { said_or result ≡ frame_at self.entry.input.now self.entry.place }
+        ensures fits { IfOk result (λ c. self.entry.place + size (said c) ≤ length self.entry.input.now) }
+    {
+        let quality = self.after(2).value()?;
+        let time = self.after(3).time()?;
+        let data_length = self.after(3 + TIME_LENGTH).data_length()?;
+        Ok(RecordContent::Frame {
+            quality,
+            time,
+            data_length,
+        })
     }
-}
 
-fn status_at(input: &[u8], place: usize) -> Result<ProductionStatus, Fault>
-    requires { place ≤ length input.now }
-    ensures { result ≡ status_at input.now place }
-{
-    match ProductionStatus::from_octet(octet_at(input, place)?) {
-        Some(status) => Ok(status),
-        None => Err(Fault::value(place)),
+    // The notification whose mark stands here.
+    fn notification(self) -> Result<RecordContent, Fault>
+        requires { self.place + 2 ≤ length self.input.now }
+        ensures content { said_or result ≡ notification_at self.entry.input.now self.entry.place }
+        ensures fits { IfOk result (λ c. self.entry.place + size (said c) ≤ length self.entry.input.now) }
+    {
+        let at_type = self.after(2);
+        let notification = match at_type.octet()? {
+            LOSS_TYPE => {
+                let time = self.after(3).time()?;
+                self.after(3 + TIME_LENGTH).zero()?;
+                Notification::LossOfFrameSynchronization(time)
+            }
+            STATUS_TYPE => {
+                self.after(3).zero_time()?;
+                Notification::ProductionStatusChange(self.after(3 + TIME_LENGTH).value()?)
+            }
+            END_OF_DATA_TYPE => {
+                self.after(3).zero_time()?;
+                self.after(3 + TIME_LENGTH).zero()?;
+                Notification::EndOfData
+            }
+            _ => return Err(at_type.wrong_value()),
+        };
+        Ok(RecordContent::Notification(notification))
     }
-}
 
-// That the octet at a place is 0.
-fn zero_at(input: &[u8], place: usize) -> Result<(), Fault>
-    requires { place ≤ length input.now }
-    ensures { result ≡ zero_at input.now place }
-{
-    if octet_at(input, place)? != 0 {
-        return Err(Fault::value(place));
-    }
-    Ok(())
-}
-
-// A data length, and that so many octets follow it.
-fn data_length_at(input: &[u8], place: usize) -> Result<u16, Fault>
-    requires { place ≤ length input.now }
-    ensures { result ≡ data_length_at input.now place }
-{
-    let length = two_octets_at(input, place)?;
-    if length < 1 || length as usize > DATA_LIMIT {
-        return Err(Fault::value(place));
-    }
-    if input.len() - (place + 2) < length as usize {
-        return Err(Fault::short(input));
-    }
-    Ok(length)
-}
-
-// The frame whose mark stands at a place.
-fn frame_at(input: &[u8], place: usize) -> Result<RecordContent, Fault>
-    requires { place + 2 ≤ length input.now }
-    ensures content { said_or result ≡ frame_at input.now place }
-    ensures fits { IfOk result (λ c. place + size (said c) ≤ length input.now) }
-{
-    let quality = quality_at(input, place + 2)?;
-    let time = time_at(input, place + 3)?;
-    let data_length = data_length_at(input, place + 3 + TIME_LENGTH)?;
-    Ok(RecordContent::Frame {
-        quality,
-        time,
-        data_length,
-    })
-}
-
-// The loss of frame synchronization whose mark stands at a place.
-fn loss_at(input: &[u8], place: usize) -> Result<RecordContent, Fault>
-    requires { place + 3 ≤ length input.now }
-    ensures content { said_or result ≡ loss_at input.now place }
-    ensures fits { IfOk result (λ c. place + size (said c) ≤ length input.now) }
-{
-    let time = time_at(input, place + 3)?;
-    zero_at(input, place + 3 + TIME_LENGTH)?;
-    Ok(RecordContent::Notification(Notification::LossOfFrameSynchronization(time)))
-}
-
-// The change of the production status whose mark stands at a place.
-fn status_change_at(input: &[u8], place: usize) -> Result<RecordContent, Fault>
-    requires { place + 3 ≤ length input.now }
-    ensures content { said_or result ≡ status_change_at input.now place }
-    ensures fits { IfOk result (λ c. place + size (said c) ≤ length input.now) }
-{
-    zero_time_at(input, place + 3)?;
-    let status = status_at(input, place + 3 + TIME_LENGTH)?;
-    Ok(RecordContent::Notification(Notification::ProductionStatusChange(status)))
-}
-
-// The end of data whose mark stands at a place.
-fn end_of_data_at(input: &[u8], place: usize) -> Result<RecordContent, Fault>
-    requires { place + 3 ≤ length input.now }
-    ensures content { said_or result ≡ end_of_data_at input.now place }
-    ensures fits { IfOk result (λ c. place + size (said c) ≤ length input.now) }
-{
-    zero_time_at(input, place + 3)?;
-    zero_at(input, place + 3 + TIME_LENGTH)?;
-    Ok(RecordContent::Notification(Notification::EndOfData))
-}
-
-// The notification whose mark stands at a place.
-fn notification_at(input: &[u8], place: usize) -> Result<RecordContent, Fault>
-    requires { place + 2 ≤ length input.now }
-    ensures content { said_or result ≡ notification_at input.now place }
-    ensures fits { IfOk result (λ c. place + size (said c) ≤ length input.now) }
-{
-    match octet_at(input, place + 2)? {
-        LOSS_TYPE => loss_at(input, place),
-        STATUS_TYPE => status_change_at(input, place),
-        END_OF_DATA_TYPE => end_of_data_at(input, place),
-        _ => Err(Fault::value(place + 2)),
-    }
-}
-
-// The record at a place.
-pub(crate) fn content_at(input: &[u8], place: usize) -> Result<RecordContent, Fault>
-    requires { place ≤ length input.now }
-    ensures content { said_or result ≡ content_at input.now place }
-    ensures fits { IfOk result (λ c. place + size (said c) ≤ length input.now) }
-{
-    match two_octets_at(input, place)? {
-        FRAME_MARK => frame_at(input, place),
-        NOTIFICATION_MARK => notification_at(input, place),
-        _ => Err(Fault::mark(place)),
+    // The record here.
+    pub(super) fn content(self) -> Result<RecordContent, Fault>
+        ensures content { said_or result ≡ content_at self.entry.input.now self.entry.place }
+        ensures fits { IfOk result (λ c. self.entry.place + size (said c) ≤ length self.entry.input.now) }
+    {
+        match self.two_octets()? {
+            FRAME_MARK => self.frame(),
+            NOTIFICATION_MARK => self.notification(),
+            _ => Err(FaultKind::Mark.at(self.place)),
+        }
     }
 }

@@ -1,10 +1,10 @@
 ghost use Rattle.std.specs.Prelude.{◌≡◌, ◌+◌, ◌≤◌, length, IfOk};
 ghost use Rattle.codec.specs.Reader.{part_or, part_if_or, part_at, next_part, next_cursor};
 
-use super::read::content_at;
 use super::{RecordPart, RecordReader};
 use crate::blocks::block_at;
 use crate::fault::Fault;
+use crate::position::Position;
 
 impl<'a> RecordReader<'a> {
     // A reader at the start of a PDU.
@@ -21,26 +21,31 @@ impl<'a> RecordReader<'a> {
         ensures cursor { self.new.place ≡ next_cursor self.old.pdu.now self.old.place }
         ensures over { self.new.pdu.now ≡ self.old.pdu.now }
     {
-        let pdu = self.pdu;
-        let place = self.place;
-        if place >= pdu.len() {
+        let at = Position {
+            input: self.pdu,
+            place: self.place,
+        };
+        if at.place >= at.input.len() {
             return Ok(None);
         }
-        let part = part_at(pdu, place)?;
-        self.place = place + part.octets.len();
+        let part = at.part()?;
+        self.place = at.place + part.octets.len();
         Ok(Some(part))
     }
 }
 
-// The record at a place, as a part of the input.
-fn part_at<'a>(input: &'a [u8], place: usize) -> Result<RecordPart<'a>, Fault>
-    requires { place ≤ length input.now }
-    ensures part { part_or result ≡ part_at input.now place }
-    ensures inside { IfOk result (λ part. place + length part.octets.now ≤ length input.now) }
-{
-    let content = content_at(input, place)?;
-    Ok(RecordPart {
-        octets: block_at(input, place, content.record_length()),
-        place,
-    })
+impl<'a> Position<'a> {
+    // The record here, as a part of the input.
+    #[tactic(auto, using(crate::proofs::Contents::part_faulty))]
+    fn part(self) -> Result<RecordPart<'a>, Fault>
+        ensures part { part_or result ≡ part_at self.entry.input.now self.entry.place }
+        ensures inside { IfOk result (λ part. self.entry.place + length part.octets.now ≤ length self.entry.input.now) }
+    {
+        let content = self.content()?;
+        let Position { input, place } = self;
+        Ok(RecordPart {
+            octets: block_at(input, place, content.record_length()),
+            place,
+        })
+    }
 }

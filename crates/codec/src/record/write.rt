@@ -1,15 +1,20 @@
-ghost use Rattle.std.specs.Prelude.{◌≡◌, length};
-ghost use Rattle.codec.specs.Times.{stamp};
-ghost use Rattle.codec.specs.Records.{frame, notified, frame_header, notification_octets, encode, write_answer, buffer_after};
+ghost use Rattle.std.specs.Prelude.{◌≡◌, ◌≤◌, ◌++◌, ◌∷◌, length};
+ghost use Rattle.codec.specs.Blocks.{placed};
+ghost use Rattle.codec.specs.Times.{stamp, stamp_octets, two_octets};
+ghost use Rattle.codec.specs.Records.{frame, notified, notification_octets, encode, write_answer, buffer_after};
 
 use super::marks::{END_OF_DATA_TYPE, FRAME_MARK, LOSS_TYPE, NOTIFICATION_MARK, STATUS_TYPE};
 use super::{
     DATA_LIMIT, FRAME_HEADER_LENGTH, NOTIFICATION_LENGTH, Notification, Quality, WriteRefusal,
 };
-use crate::blocks::{place_block, place_two_blocks};
-use crate::time::Time;
+use crate::blocks::place_block;
+use crate::time::{TIME_LENGTH, Time};
+
+// Mark, an octet and a time, with which each record begins.
+const FRONT_LENGTH: usize = 3 + TIME_LENGTH;
 
 // Writes a frame to the front of a buffer and leaves the rest; answers the record's length.
+#[tactic(auto, using(crate::proofs::RecordsWritten::frame_length, crate::proofs::Writing::too_short, crate::proofs::Writing::fits, crate::proofs::Writing::frame_writable, crate::proofs::Writing::frame_placed))]
 pub fn write_frame(
     out: &mut [u8],
     quality: Quality,
@@ -27,12 +32,14 @@ pub fn write_frame(
     if record_length > out.len() {
         return Err(WriteRefusal::BufferTooShort);
     }
-    let header = frame_header(quality, time, data_length as u16);
-    place_two_blocks(out, 0, &header, data);
+    place_front(out, FRAME_MARK, quality.into(), time);
+    place_block(out, FRONT_LENGTH, &(data_length as u16).to_be_bytes());
+    place_block(out, FRAME_HEADER_LENGTH, data);
     Ok(record_length)
 }
 
 // Writes a notification to the front of a buffer and leaves the rest; answers the record's length.
+#[tactic(auto, using(crate::proofs::Writing::too_short, crate::proofs::Writing::fits, crate::proofs::Writing::notified_writable, crate::proofs::Writing::notified_length, crate::proofs::Writing::notification_placed))]
 pub fn write_notification(out: &mut [u8], notification: Notification) -> Result<usize, WriteRefusal>
     ensures answer { result ≡ write_answer (length out.old) (notified notification) }
     ensures buffer { out.new ≡ buffer_after out.old (notified notification) result }
@@ -40,57 +47,34 @@ pub fn write_notification(out: &mut [u8], notification: Notification) -> Result<
     if NOTIFICATION_LENGTH > out.len() {
         return Err(WriteRefusal::BufferTooShort);
     }
-    let record = notification_record(notification);
-    place_block(out, 0, &record);
+    let (kind, time, value) = notification_fields(notification);
+    place_front(out, NOTIFICATION_MARK, kind, time);
+    place_block(out, FRONT_LENGTH, &[value]);
     Ok(NOTIFICATION_LENGTH)
 }
 
-// A frame before its data.
-fn frame_header(quality: Quality, time: Time, data_length: u16) -> [u8; FRAME_HEADER_LENGTH]
-    ensures { result ≡ frame_header quality (stamp time) data_length }
+// Writes the front of a record, its mark, an octet and a time, to the front of a buffer.
+fn place_front(out: &mut [u8], mark: u16, octet: u8, time: Time)
+    requires { FRONT_LENGTH ≤ length out.old }
+    ensures { out.new ≡ placed out.old 0 (two_octets mark ++ (octet ∷ stamp_octets (stamp time))) }
 {
-    let mark = FRAME_MARK.to_be_bytes();
-    let time = time.octets();
-    let length = data_length.to_be_bytes();
-    [
-        mark[0],
-        mark[1],
-        quality.octet(),
-        time[0],
-        time[1],
-        time[2],
-        time[3],
-        time[4],
-        time[5],
-        time[6],
-        time[7],
-        length[0],
-        length[1],
-    ]
+    place_block(out, 0, &mark.to_be_bytes());
+    place_block(out, 2, &[octet]);
+    place_block(out, 3, &time.octets());
 }
 
-// The octets of a notification.
-fn notification_record(notification: Notification) -> [u8; NOTIFICATION_LENGTH]
-    ensures { result ≡ encode (notified notification) }
+// The type, the time and the value of a notification.
+#[tactic(auto, unfolding(crate::specs::Records::encode))]
+fn notification_fields(notification: Notification) -> (u8, Time, u8)
+    ensures { encode (notified notification) ≡ notification_octets result.0 (stamp result.1) result.2 }
 {
     match notification {
-        Notification::LossOfFrameSynchronization(time) => notification_octets(LOSS_TYPE, time, 0),
-        Notification::ProductionStatusChange(status) => notification_octets(
+        Notification::LossOfFrameSynchronization(time) => (LOSS_TYPE, time, 0),
+        Notification::ProductionStatusChange(status) => (
             STATUS_TYPE,
-            Time::zero(),
-            status.octet(),
+            Time::default(),
+            status.into(),
         ),
-        Notification::EndOfData => notification_octets(END_OF_DATA_TYPE, Time::zero(), 0),
+        Notification::EndOfData => (END_OF_DATA_TYPE, Time::default(), 0),
     }
-}
-
-fn notification_octets(kind: u8, time: Time, value: u8) -> [u8; NOTIFICATION_LENGTH]
-    ensures { result ≡ notification_octets kind (stamp time) value }
-{
-    let mark = NOTIFICATION_MARK.to_be_bytes();
-    let time = time.octets();
-    [
-        mark[0], mark[1], kind, time[0], time[1], time[2], time[3], time[4], time[5], time[6],
-        time[7], value,
-    ]
 }

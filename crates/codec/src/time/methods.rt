@@ -1,81 +1,60 @@
 ghost use Rattle.std.specs.Prelude.{◌≡◌};
-ghost use Rattle.codec.specs.Times.{stamp, stamp_or, zero_stamp, checked_stamp, stamp_octets, ordered, compared};
+ghost use Rattle.codec.specs.Times.{stamp, stamp_or, zero_stamp, checked_stamp, stamp_octets, compared};
 
-use super::{MICROSECOND_LIMIT, MILLISECOND_LIMIT, TIME_LENGTH, Time, TimeField, TimeOrder};
+use super::{MICROSECOND_LIMIT, MILLISECOND_LIMIT, TIME_LENGTH, Time, TimeField, TimeNumbers};
+use crate::blocks::place_block;
+use std::cmp::Ordering;
 
-impl Time {
-    // The time of these three numbers, or the first of them that is beyond its limit.
-    pub fn new(day: u16, millisecond: u32, microsecond: u32) -> Result<Time, TimeField>
-        ensures { stamp_or result ≡ checked_stamp day millisecond microsecond }
-    {
-        if millisecond > MILLISECOND_LIMIT {
+// The time of three numbers, or the first of them that is beyond its limit.
+impl TryFrom<TimeNumbers> for Time {
+    type Error = TimeField;
+
+    ghost try_from_gives = { λ n r. stamp_or r ≡ checked_stamp n.day n.millisecond n.microsecond };
+
+    fn try_from(numbers: TimeNumbers) -> Result<Time, TimeField> {
+        if numbers.millisecond > MILLISECOND_LIMIT {
             return Err(TimeField::Millisecond);
         }
-        if microsecond > MICROSECOND_LIMIT {
+        if numbers.microsecond > MICROSECOND_LIMIT {
             return Err(TimeField::Microsecond);
         }
         Ok(Time {
-            day,
-            millisecond,
-            microsecond: microsecond as u16,
+            day: numbers.day,
+            millisecond: numbers.millisecond,
+            microsecond: numbers.microsecond as u16,
         })
     }
+}
 
-    // The time whose numbers are all zero.
-    pub(crate) fn zero() -> Time
-        ensures { stamp result ≡ zero_stamp }
-    {
+// The time whose numbers are all zero. By hand, since what is derived does not prove the limits.
+impl Default for Time {
+    ghost is_default = { λ time. stamp time ≡ zero_stamp };
+
+    fn default() -> Time {
         Time {
             day: 0,
             millisecond: 0,
             microsecond: 0,
         }
     }
+}
 
-    // Whether this time is before the other, the same or after it: by the fields in turn.
-    pub fn compare(&self, other: &Time) -> TimeOrder
+impl Time {
+    // How this time stands to the other, by the numbers of both.
+    pub fn compare(&self, other: &Time) -> Ordering
         ensures { result ≡ compared (stamp self.now) (stamp other.now) }
     {
-        match compare_numbers(self.day as u32, other.day as u32) {
-            TimeOrder::Same => match compare_numbers(self.millisecond, other.millisecond) {
-                TimeOrder::Same => compare_numbers(
-                    self.microsecond as u32,
-                    other.microsecond as u32,
-                ),
-                different => different,
-            },
-            different => different,
-        }
+        self.cmp(other)
     }
 
     // The octets of the time, each field with its high octet first.
     pub fn octets(&self) -> [u8; TIME_LENGTH]
         ensures { result ≡ stamp_octets (stamp self.now) }
     {
-        let day = self.day.to_be_bytes();
-        let millisecond = self.millisecond.to_be_bytes();
-        let microsecond = self.microsecond.to_be_bytes();
-        [
-            day[0],
-            day[1],
-            millisecond[0],
-            millisecond[1],
-            millisecond[2],
-            millisecond[3],
-            microsecond[0],
-            microsecond[1],
-        ]
-    }
-}
-
-fn compare_numbers(number: u32, other: u32) -> TimeOrder
-    ensures { result ≡ ordered number other }
-{
-    if number < other {
-        TimeOrder::Before
-    } else if other < number {
-        TimeOrder::After
-    } else {
-        TimeOrder::Same
+        let mut octets = [0; TIME_LENGTH];
+        place_block(&mut octets, 0, &self.day.to_be_bytes());
+        place_block(&mut octets, 2, &self.millisecond.to_be_bytes());
+        place_block(&mut octets, 6, &self.microsecond.to_be_bytes());
+        octets
     }
 }

@@ -4,42 +4,46 @@ ghost use Rattle.codec.specs.Fields.{stamp_at, zero_stamp_at};
 
 use super::{MICROSECOND_LIMIT, MILLISECOND_LIMIT, Time};
 use crate::fault::Fault;
-use crate::fields::{four_octets_at, two_octets_at};
+use crate::position::Position;
 
-// The time that stands at a place: its fields in order, presence before value.
-pub(crate) fn time_at(input: &[u8], place: usize) -> Result<Time, Fault>
-    requires { place ≤ length input.now }
-    ensures { stamp_or result ≡ stamp_at input.now place }
-{
-    let day = two_octets_at(input, place)?;
-    let millisecond = four_octets_at(input, place + 2)?;
-    if millisecond > MILLISECOND_LIMIT {
-        return Err(Fault::value(place + 2));
+impl Position<'_> {
+    // The time that stands here: its fields in order, presence before value.
+    pub(crate) fn time(self) -> Result<Time, Fault>
+        ensures { stamp_or result ≡ stamp_at self.entry.input.now self.entry.place }
+    {
+        let day = self.two_octets()?;
+        let at_millisecond = self.after(2);
+        let millisecond = at_millisecond.four_octets()?;
+        if millisecond > MILLISECOND_LIMIT {
+            return Err(at_millisecond.wrong_value());
+        }
+        let at_microsecond = self.after(6);
+        let microsecond = at_microsecond.two_octets()?;
+        if microsecond as u32 > MICROSECOND_LIMIT {
+            return Err(at_microsecond.wrong_value());
+        }
+        Ok(Time {
+            day,
+            millisecond,
+            microsecond,
+        })
     }
-    let microsecond = two_octets_at(input, place + 6)?;
-    if microsecond as u32 > MICROSECOND_LIMIT {
-        return Err(Fault::value(place + 6));
-    }
-    Ok(Time {
-        day,
-        millisecond,
-        microsecond,
-    })
-}
 
-// That the time at a place has all its fields zero.
-pub(crate) fn zero_time_at(input: &[u8], place: usize) -> Result<(), Fault>
-    requires { place ≤ length input.now }
-    ensures { result ≡ zero_stamp_at input.now place }
-{
-    if two_octets_at(input, place)? != 0 {
-        return Err(Fault::value(place));
+    // That the time here has all its fields zero.
+    pub(crate) fn zero_time(self) -> Result<(), Fault>
+        ensures { result ≡ zero_stamp_at self.entry.input.now self.entry.place }
+    {
+        if self.two_octets()? != 0 {
+            return Err(self.wrong_value());
+        }
+        let at_millisecond = self.after(2);
+        if at_millisecond.four_octets()? != 0 {
+            return Err(at_millisecond.wrong_value());
+        }
+        let at_microsecond = self.after(6);
+        if at_microsecond.two_octets()? != 0 {
+            return Err(at_microsecond.wrong_value());
+        }
+        Ok(())
     }
-    if four_octets_at(input, place + 2)? != 0 {
-        return Err(Fault::value(place + 2));
-    }
-    if two_octets_at(input, place + 6)? != 0 {
-        return Err(Fault::value(place + 6));
-    }
-    Ok(())
 }

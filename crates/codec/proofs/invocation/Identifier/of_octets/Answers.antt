@@ -1,9 +1,6 @@
-use Rattle.std.proofs.Common.{length, take, refl, ap, ◌∙◌, rules}
+use Rattle.std.proofs.Common.{length, take, refl, ap, ◌∙◌}
 use Rattle.std.proofs.lemmas.List.{take_at}
 use Rattle.codec.proofs.invocation.Identifier.of_octets.Goals as goal
-
-pub invariant_of-result : goal.invariant_of-result
-invariant_of-result c = record { held = (search rules, c.requires.low, c.requires.high) }
 
 pub returns : goal.returns
 returns c =

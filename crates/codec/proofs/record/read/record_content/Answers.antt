@@ -2,4 +2,4 @@ use Rattle.codec.proofs.Contents.{content_read_or_faulty}
 use Rattle.codec.proofs.record.read.record_content.Goals as goal
 
 pub returns : goal.returns
-returns c = content_read_or_faulty c.args.octets.now 0 c.content_at.result c.content_at.ensures.content c.content_at.ensures.fits
+returns c = content_read_or_faulty c.args.octets.now 0 c.content.result c.content.ensures.content c.content.ensures.fits
