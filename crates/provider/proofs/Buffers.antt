@@ -1,5 +1,5 @@
 -- A transfer buffer with one record more, and an empty one.
-use Rattle.std.proofs.Common.{◌≡◌, ℕ, ◌+◌, ◌*◌, ◌<◌, ◌≤◌, Bool, true, false, cond, List, [], ◌∷◌, ◌++◌, length, take, drop, Some, None, filter, Option, sym, refl, ap, ◌∙◌, append_assoc, append-nil, arith, length-append, length-drop}
+use Rattle.std.proofs.Common.{◌≡◌, ℕ, ◌+◌, ◌*◌, ◌<◌, ◌≤◌, Bool, true, cond, List, [], ◌∷◌, ◌++◌, length, take, drop, Some, None, filter, Option, sym, refl, ap, ◌∙◌, append_assoc, append-nil, arith, length-append, length-drop}
 use Rattle.std.specs.List.{flat_map, AllByRecursion}
 use Rattle.std.proofs.lemmas.List.{take_at, length-take-le}
 use Rattle.std.proofs.lemmas.List.Elements.{filter-append}
@@ -59,21 +59,17 @@ joined_short (r ∷ rs) w =
     simp length-append (omega arith)
 
 pub accepted_is : (r : Record) → accepted_content (content_of r) ≡ is_accepted r
-accepted_is (frame q t d) = refl
-accepted_is (loss t) = refl
-accepted_is (status v) = refl
-accepted_is end_of_data = refl
+accepted_is r = grind arith
 
 one_kept : (b : Bool) (r : Record) → length (cond b (r ∷ []) []) ≡ cond b 1 0
-one_kept true r = refl
-one_kept false r = refl
+one_kept b r = grind arith
 
 pub one_of : (xs : List ℕ) (c : Content) → Some c ≡ content_if (one_record xs) → (r : Record) × (one_record xs ≡ Some r) × (content_of r ≡ c)
 one_of xs c e = from (one_record xs) e refl
   where
     from : (o : Option Record) → Some c ≡ content_if o → one_record xs ≡ o → (r : Record) × (one_record xs ≡ Some r) × (content_of r ≡ c)
     from (Some r) f is = (r, is, cc)
-    from None f is = let bad : ◌≡◌ {A = ℕ} 0 1 = cc in absurd (omega arith)
+    from None f is = absurd (cc)
 
 -- a buffer's facts, and those of the buffer with one record more
 module _ (octets : List ℕ) (used : ℕ) (whole : flat_map encode (records_held octets used) ≡ take used octets) (well : all_well_formed (records_held octets used) ≡ true)
@@ -139,6 +135,20 @@ pub record Kept (octets : List ℕ) (used count accepted : ℕ) : Type 0 where
   pub counted : count ≡ length (records_held octets used)
   pub told : accepted ≡ accepted_count (records_held octets used)
 
+-- with no records
+pub emptied : (octets : List ℕ) → length octets ≡ buffer_octets → Kept octets 0 0 0
+emptied octets size =
+    let none = none_held octets in
+    record {
+      size = size;
+      within = omega arith;
+      few = omega arith;
+      whole = ap (flat_map encode) none;
+      well = ap all_well_formed none;
+      counted = sym (ap length none);
+      told = sym (ap accepted_count none);
+    }
+
 module _ (octets : List ℕ) (used count accepted : ℕ) (kept : Kept octets used count accepted) where
   in_octets : used ≤ length octets
   in_octets = omega (arith, kept.size, kept.within)
@@ -173,12 +183,10 @@ module _ (octets : List ℕ) (used count accepted : ℕ) (kept : Kept octets use
       )
 
 pick : (b : Bool) (m n k : ℕ) → m ≤ k → n ≤ k → cond b m n ≤ k
-pick true m n k h l = h
-pick false m n k h l = l
+pick b m n k h l = grind arith
 
 some_length : (b : Bool) (r : Record) (rs : List Record) → length (cond b (r ∷ rs) rs) ≤ length rs + 1
-some_length true r rs = omega arith
-some_length false r rs = omega arith
+some_length b r rs = grind arith
 
 kept_few : (rs : List Record) → accepted_count rs ≤ length rs
 kept_few [] = omega arith

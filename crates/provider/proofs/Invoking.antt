@@ -1,10 +1,10 @@
 -- An invocation touches neither queue, and copies nothing.
-use Rattle.std.proofs.Common.{◌≡◌, ℕ, Bool, true, false, cond, leb, List, Ok, Err, Result, refl}
+use Rattle.std.proofs.Common.{◌≡◌, ℕ, Bool, cond, leb, List, Ok, Err, Result, refl, arith}
 use Rattle.std.specs.Str.{bytes_eq}
 use Rattle.codec.specs.declared.fault.Fault.{Fault}
 use Rattle.codec.specs.Invocations.{Request, start, stop, bind, unbind, abort}
 use Rattle.codec.specs.InvocationReading.{request_in}
-use Rattle.histories.specs.Sessions.{Settings, Session, Phase, unbound, ready, active, closed, empty_span, to_phase, selecting}
+use Rattle.histories.specs.Sessions.{Settings, Session, Phase, empty_span, to_phase, selecting}
 use Rattle.histories.specs.Calls.{Outcome, says, refuses, start_done, bind_done}
 use Rattle.histories.specs.Invocations.{Cell, to, cell_protocol_error, refusal, table, is_halted, selection_of, start_by, bind_by, performed, by_cell, by_fault, by_reading, invoke_by}
 
@@ -12,8 +12,7 @@ abbrev pub Quiet : Outcome → Type 0
 Quiet o = o ≡ says o.session o.answer
 
 either : (b : Bool) (x y : Outcome) → Quiet x → Quiet y → Quiet (cond b x y)
-either true x y e f = e
-either false x y e f = f
+either b x y e f = grind arith
 
 by_performing : (g : Settings) (s : Session) (p : Phase) (r : Request) → Quiet (performed g s p r)
 unfolding start_by bind_by
@@ -33,10 +32,7 @@ by_the_cell g s r cell_protocol_error = refl
 by_the_cell g s r (refusal n) = refl
 
 by_the_fault : (s : Session) (p : Phase) (f : Fault) → Quiet (by_fault s p f)
-by_the_fault s unbound f = refl
-by_the_fault s ready f = refl
-by_the_fault s active f = refl
-by_the_fault s closed f = refl
+by_the_fault s p f = grind arith
 
 by_the_reading : (g : Settings) (s : Session) (r : Result Request Fault) → Quiet (by_reading g s r)
 by_the_reading g s (Ok r) = by_the_cell g s r (table s.phase r)

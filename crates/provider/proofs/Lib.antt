@@ -1,6 +1,7 @@
 pub mod Contents
 pub mod Buffers
 pub mod Queues
+pub mod Refusing
 pub mod Claims
 pub mod Sending
 pub mod Ticking

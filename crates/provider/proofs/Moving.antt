@@ -17,12 +17,11 @@ use Rattle.histories.specs.Provider.{State, oldest, ending, taking, passing, mov
 
 -- no record that is held
 pub none_oldest : (held : List (List ℕ)) (k : ℕ) → refuses k ≡ first_answer held → oldest held ≡ None
-none_oldest [] k e = refl
-none_oldest (r ∷ rs) k e = let bad : ◌≡◌ {A = ℕ} 0 1 = cc in absurd (omega arith)
+none_oldest held k e = grind arith
 
 -- the oldest record's octets, read into a buffer that is long enough
 pub oldest_read : (held : List (List ℕ)) (n : ℕ) (out out' : List ℕ) → gives n ≡ first_answer held → n ≤ length out → out' ≡ read_buffer held 0 out → oldest held ≡ one_record (take (n - 0) out')
-oldest_read [] n out out' e h r = let bad : ◌≡◌ {A = ℕ} 0 1 = cc in absurd (omega arith)
+oldest_read [] n out out' e h r = absurd (cc)
 oldest_read (x ∷ rs) n out out' e h r =
     let is : n ≡ length x = cc in
     let z : n - 0 ≡ n = omega arith in
@@ -54,7 +53,7 @@ no_one xs e = by (one_record xs) refl
   where
     by : (o : Option Record) → one_record xs ≡ o → one_record xs ≡ None
     by None is = is
-    by (Some r) is = let f : content_if (one_record xs) ≡ Some (content_of r) = ap content_if is in let bad : ◌≡◌ {A = ℕ} 0 1 = cc in absurd (omega arith)
+    by (Some r) is = let f : content_if (one_record xs) ≡ Some (content_of r) = ap content_if is in absurd (cc)
 
 module _ (s : Session) (r : Record) where
   pub move_ends : late s.selection r ≡ true → move_record s (Some r) ≡ ending s
@@ -96,6 +95,4 @@ quiet_move s None = refl
 quiet_move s (Some r) = either (late s.selection r) (selected s.selection r)
   where
     either : (a b : Bool) → [] ≡ (cond a (ending s) (cond b (taking s r) (passing s))).copied
-    either true b = refl
-    either false true = refl
-    either false false = refl
+    either a b = grind arith

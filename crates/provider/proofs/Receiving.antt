@@ -1,25 +1,28 @@
 -- What putting a record into the frame buffer comes to.
-use Rattle.std.proofs.Common.{◌≡◌, ℕ, zero, suc, ◌+◌, ◌-◌, ◌≤◌, Bool, true, false, cond, leb, List, [], ◌++◌, length, take, drop, Some, None, Ok, Err, Option, sym, refl, ap, ◌∙◌, subst, arith}
-use Rattle.std.proofs.Math.Bool.{and-false}
+use Rattle.std.proofs.Common.{◌≡◌, ℕ, ◌+◌, ◌≤◌, Bool, true, false, cond, leb, List, [], length, take, drop, Some, None, Ok, Err, Option, Result, sym, refl, ap, ◌∙◌, subst, arith}
 use Rattle.std.proofs.lemmas.List.{take_at}
+use Rattle.std.proofs.lemmas.Bool.Decides.{nat_tests}
 use Rattle.std.proofs.lemmas.Bool.{and_parts, leb-true, le-leb}
-use Rattle.codec.specs.Limits.{millisecond_limit, microsecond_limit, longest_record, data_limit}
-use Rattle.codec.specs.Times.{Stamp, stamp, timely, checked_stamp}
+use Rattle.codec.specs.Limits.{longest_record, data_limit}
+use Rattle.codec.specs.Times.{Stamp, stamp, stamp_or, timely, checked_stamp}
+use Rattle.codec.specs.declared.time.Time.{Time}
 use Rattle.codec.specs.declared.time.TimeField.{TimeField}
-use Rattle.codec.specs.declared.time.TimeField.TheVariants.{Millisecond, Microsecond}
+use Rattle.codec.specs.OctetValues.{known}
+use Rattle.codec.specs.declared.octet_value.UnknownOctet.{UnknownOctet}
 use Rattle.codec.specs.declared.record.Quality.{Quality}
 use Rattle.codec.specs.declared.record.ProductionStatus.{ProductionStatus}
 use Rattle.codec.proofs.RecordsWritten.{frame_length, loss_length, status_length, end_length}
 use Rattle.codec.specs.declared.record.Notification.{Notification}
 use Rattle.codec.specs.declared.record.Notification.TheVariants.{LossOfFrameSynchronization, ProductionStatusChange, EndOfData}
-use Rattle.codec.specs.Records.{Record, frame, notified, encode, writable, write_answer, data_length_allowed}
+use Rattle.codec.specs.Records.{Record, frame, notified, encode, writable, write_answer, buffer_after, data_length_allowed}
 use Rattle.codec.specs.declared.record.WriteRefusal.{WriteRefusal}
 use Rattle.codec.specs.declared.record.WriteRefusal.TheVariants.{DataLength, BufferTooShort}
 use Rattle.histories.specs.Queues.{Queue, Added, keep, add}
 use Rattle.histories.specs.Sessions.{Session, is_closed}
-use Rattle.histories.specs.Calls.{Outcome, refuses, refused, accepted, as_note}
+use Rattle.histories.specs.Calls.{Answer, Outcome, refuses, refused, accepted, as_note}
 use Rattle.histories.specs.Provider.{State, is_timely, has_data, produced, admit, receive, receive_by}
-use Rattle.provider.specs.States.{numbers, Leads, Offered}
+use Rattle.provider.specs.States.{Leads, offering}
+use Rattle.provider.proofs.Refusing.{Refusing, refusing_ok}
 use Rattle.provider.proofs.Sending.{leads_by}
 
 module _ (s : Session) (frames : Queue) (r : Record) where
@@ -41,21 +44,18 @@ module _ (s : Session) (frames : Queue) (r : Record) where
   untimely n a = rw a
 
 two_tests : (a b : Bool) (m n : ℕ) → Ok n ≡ cond a (cond b (Ok m) (Err BufferTooShort)) (Err DataLength) → (a ≡ true) × (n ≡ m)
-two_tests true true m n e = (refl, cc)
-two_tests true false m n e = let bad : ◌≡◌ {A = ℕ} 0 1 = cc in absurd (omega arith)
-two_tests false b m n e = let bad : ◌≡◌ {A = ℕ} 0 1 = cc in absurd (omega arith)
+two_tests a b m n e = grind arith
 
 -- a record that was written stands at the front of the buffer
-pub written_front : (r : Record) (out out' : List ℕ) (n : ℕ) → Ok n ≡ write_answer (length out) r → out' ≡ encode r ++ drop n out → (writable r ≡ true) × (take (n - 0) out' ≡ encode r)
-written_front r out out' n answered after =
-    let t = two_tests (writable r) (leb (length (encode r)) (length out)) (length (encode r)) n answered in
-    let z : n - 0 ≡ n = omega arith in
-    (t.0, ap (λ k. take k out') z ∙ ap (take n) after ∙ take_at (encode r) (drop n out) n (sym t.1))
+pub written_front : {D : Type 0} (d : D) (r : Record) (out out' : List ℕ) (a : Result ℕ WriteRefusal) (a' : Result ℕ D) (n : ℕ) → Refusing d a a' → a' ≡ Ok n
+    → a ≡ write_answer (length out) r → out' ≡ buffer_after out r a → (writable r ≡ true) × (take n out' ≡ encode r)
+written_front d r out out' a a' n told made answered after =
+    let is = refusing_ok d a a' n told made in
+    let t = two_tests (writable r) (leb (length (encode r)) (length out)) (length (encode r)) n (sym is ∙ answered) in
+    (t.0, ap (take n) (after ∙ ap (buffer_after out r) is) ∙ take_at (encode r) (drop n out) n (sym t.1))
 
 failed_tests : (a b : Bool) (m : ℕ) (e : WriteRefusal) → Err e ≡ cond a (cond b (Ok m) (Err BufferTooShort)) (Err DataLength) → b ≡ true → a ≡ false
-failed_tests true true m e f is = let bad : ◌≡◌ {A = ℕ} 0 1 = cc in absurd (omega arith)
-failed_tests true false m e f is = let bad : ◌≡◌ {A = ℕ} 0 1 = cc in absurd (omega arith)
-failed_tests false b m e f is = refl
+failed_tests a b m e f is = grind arith
 
 -- a buffer that holds the record, if its data have an allowed length, refuses a frame only for its data's length
 pub not_written : (q : Quality) (t : Stamp) (d out : List ℕ) (e : WriteRefusal) → Err e ≡ write_answer (length out) (frame q t d) → (length d ≤ data_limit → length d + 13 ≤ length out) → data_length_allowed (length d) ≡ false
@@ -68,20 +68,44 @@ not_written q t d out e answered size = by (data_length_allowed (length d)) refl
         let fits = le-leb (length (encode (frame q t d))) (length out) (omega (arith, frame_length q t d, size few)) in
         failed_tests (data_length_allowed (length d)) (leb (length (encode (frame q t d))) (length out)) (length (encode (frame q t d))) e answered fits
 
--- what became of a record whose octets were offered to the frame buffer
-module _ (s s' : State) (r : Record) (octets : List ℕ) (is : octets ≡ encode r) where
-  pub admitted_is : true ≡ s.frames.room (length octets) → Added s.frames octets s'.frames → s'.settings ≡ s.settings → s'.opening ≡ s.opening → s'.session ≡ produced r s.session
-      → s'.transport ≡ s.transport → Leads s (admit s.session s.frames r) accepted s'
-  admitted_is had frames settings opening session transport =
-      let room : s.frames.room (length (encode r)) ≡ true = ap (λ x. s.frames.room (length x)) (sym is) ∙ sym had in
-      leads_by s s' _ _ _ (admits s.session s.frames r room)
-      (record { answer = refl; settings = settings; opening = opening; session = session; frames = subst (λ x. Added s.frames x s'.frames) is frames; transport = transport })
+-- a record whose octets were offered, and that changes nothing else when it is accepted
+pub offered_record : (s s' : State) (r : Record) (octets : List ℕ) (a : Answer) → octets ≡ encode r → produced r s.session ≡ s.session
+    → Leads s (offering s.session s.frames octets) a s' → Leads s (admit s.session s.frames r) a s'
+unfolding admit
+offered_record s s' r octets a is same l =
+    leads_by s s' _ (offering s.session s.frames octets) _ (rw (same, ← is) refl) l
 
-  pub full_is : Offered s octets false s' → Leads s (admit s.session s.frames r) (refused 13) s'
-  full_is o =
-      let none : s.frames.room (length (encode r)) ≡ false = ap (λ x. s.frames.room (length x)) (sym is) ∙ sym o.room in
-      leads_by s s' _ _ _ (full s.session s.frames r none)
-      (record { answer = refl; settings = o.settings; opening = o.opening; session = o.session; frames = o.frames; transport = o.transport })
+-- what the answer to an offer tells of the room
+module _ (s s' : State) (x : List ℕ) where
+  pub was_taken : Leads s (offering s.session s.frames x) accepted s' → (s.frames.room (length x) ≡ true) × Added s.frames x s'.frames × (s'.session ≡ s.session) × (s'.transport ≡ s.transport)
+  was_taken l = by (s.frames.room (length x)) refl
+    where
+      by : (b : Bool) → s.frames.room (length x) ≡ b → (s.frames.room (length x) ≡ true) × Added s.frames x s'.frames × (s'.session ≡ s.session) × (s'.transport ≡ s.transport)
+      by true room = let taken = rw room at l in (room, taken.frames, taken.session, taken.transport)
+      by false room = let none = rw room at l in absurd (let e = none.answer in cc)
+
+  pub was_refused : (n : ℕ) → Leads s (offering s.session s.frames x) (refused n) s' → Leads s (refuses s.session 13) (refused n) s' × (s.frames.room (length x) ≡ false)
+  was_refused n l = by (s.frames.room (length x)) refl
+    where
+      by : (b : Bool) → s.frames.room (length x) ≡ b → Leads s (refuses s.session 13) (refused n) s' × (s.frames.room (length x) ≡ false)
+      by true room = let taken = rw room at l in absurd (let e = taken.answer in cc)
+      by false room = (rw room at l, room)
+
+-- a record whose octets were taken, and what it changes besides
+pub taken_record : (s s' : State) (r : Record) (octets : List ℕ) (own : Session) → octets ≡ encode r → own ≡ produced r s'.session → Leads s (offering s.session s.frames octets) accepted s'
+    → Leads s (admit s.session s.frames r) accepted (record { settings = s'.settings; opening = s'.opening; session = own; frames = s'.frames; transport = s'.transport })
+taken_record s s' r octets own is produces l =
+    let t = was_taken s s' octets l in
+    let room : s.frames.room (length (encode r)) ≡ true = ap (λ x. s.frames.room (length x)) (sym is) ∙ t.0 in
+    leads_by s _ _ _ _ (admits s.session s.frames r room)
+    (record { answer = refl; settings = l.settings; opening = l.opening; session = produces ∙ ap (produced r) t.2; frames = subst (λ x. Added s.frames x s'.frames) is t.1; transport = t.3 })
+
+pub refused_record : (s s' : State) (r : Record) (octets : List ℕ) (n : ℕ) → octets ≡ encode r → Leads s (offering s.session s.frames octets) (refused n) s'
+    → Leads s (admit s.session s.frames r) (refused n) s'
+refused_record s s' r octets n is l =
+    let t = was_refused s s' octets n l in
+    let none : s.frames.room (length (encode r)) ≡ false = ap (λ x. s.frames.room (length x)) (sym is) ∙ t.1 in
+    leads_by s s' _ _ _ (full s.session s.frames r none) t.0
 
 module _ (s : Session) (frames : Queue) (n : ℕ) (r : Option Record) where
   pub closed_refuses : is_closed s.phase ≡ true → receive_by s frames n r ≡ refuses s 4
@@ -93,8 +117,7 @@ module _ (s : Session) (frames : Queue) (n : ℕ) (r : Option Record) where
   open_receives e = rw e
 
 either_copied : (b : Bool) (x y : Outcome) → [] ≡ x.copied → [] ≡ y.copied → [] ≡ (cond b x y).copied
-either_copied true x y e f = e
-either_copied false x y e f = f
+either_copied b x y e f = grind arith
 
 pub admit_copies_nothing : (s : Session) (frames : Queue) (r : Record) → [] ≡ (admit s frames r).copied
 unfolding admit
@@ -105,22 +128,21 @@ copies_nothing s frames n None = refl
 copies_nothing s frames n (Some r) =
     either_copied (is_timely r) (cond (has_data r) (admit s frames r) (refuses s 12)) (refuses s 11) (either_copied (has_data r) (admit s frames r) (refuses s 12) (admit_copies_nothing s frames r) refl) refl
 
--- numbers that make no time are beyond a limit, and those that make one are its numbers
-pub no_time : (d ms us : ℕ) (e : TimeField) → Err e ≡ checked_stamp d ms us → timely (numbers d ms us) ≡ false
-no_time d ms us e is = by (leb ms millisecond_limit) (leb us microsecond_limit) refl refl
-  where
-    by : (a b : Bool) → leb ms millisecond_limit ≡ a → leb us microsecond_limit ≡ b → timely (numbers d ms us) ≡ false
-    by true true x y = let ok : checked_stamp d ms us ≡ Ok (numbers d ms us) = rw (x, y) in let bad : ◌≡◌ {A = ℕ} 0 1 = cc in absurd (omega arith)
-    by true false x y = rw (x, y, and-false)
-    by false b x y = rw (x, and-false)
+-- an octet that stands for no value, and one that does
+module _ {X : Type 0} (o : Option X) (n : ℕ) (r : Result X UnknownOctet) (is : r ≡ known o n) where
+  pub no_value : (e : UnknownOctet) → r ≡ Err e → o ≡ None
+  no_value e failed = grind arith
 
-pub a_time : (d ms us : ℕ) (t : Stamp) → Ok t ≡ checked_stamp d ms us → t ≡ numbers d ms us
-a_time d ms us t is = by (leb ms millisecond_limit) (leb us microsecond_limit) refl refl
-  where
-    by : (a b : Bool) → leb ms millisecond_limit ≡ a → leb us microsecond_limit ≡ b → t ≡ numbers d ms us
-    by true true x y = let ok : checked_stamp d ms us ≡ Ok (numbers d ms us) = rw (x, y) in cc
-    by true false x y = let err : checked_stamp d ms us ≡ Err Microsecond = rw (x, y) in let bad : ◌≡◌ {A = ℕ} 0 1 = cc in absurd (omega arith)
-    by false b x y = let err : checked_stamp d ms us ≡ Err Millisecond = rw x in let bad : ◌≡◌ {A = ℕ} 0 1 = cc in absurd (omega arith)
+  pub a_value : (x : X) → r ≡ Ok x → o ≡ Some x
+  a_value x found = grind arith
+
+-- numbers that make no time are beyond a limit, and those that make one are its numbers
+module _ (n : Stamp) (r : Result Time TimeField) where
+  pub no_time : (e : TimeField) → stamp_or r ≡ checked_stamp n.day n.millisecond n.microsecond → r ≡ Err e → timely n ≡ false
+  no_time e is failed = grind (arith, nat_tests)
+
+  pub a_time : (t : Time) → stamp_or r ≡ checked_stamp n.day n.millisecond n.microsecond → r ≡ Ok t → stamp t ≡ n
+  a_time t is made = grind (arith, nat_tests)
 
 -- a buffer for the longest record takes every notification
 pub always_written : (n : Notification) (out : List ℕ) (e : WriteRefusal) → Err e ≡ write_answer (length out) (notified n) → length out ≡ longest_record → ⊥
@@ -140,17 +162,13 @@ always_written n out e answered size =
     may EndOfData = refl
 
     contrary : (b : Bool) → b ≡ true → b ≡ false → ⊥
-    contrary true e f = let bad : ◌≡◌ {A = ℕ} 0 1 = cc in omega arith
-    contrary false e f = let bad : ◌≡◌ {A = ℕ} 0 1 = cc in omega arith
+    contrary true e f = cc
+    contrary false e f = cc
 
 -- a note of another type means nothing
 pub no_note : (kind : ℕ) (t : Stamp) (v : ℕ) → (kind ≡ 0 → ⊥) → (kind ≡ 1 → ⊥) → as_note kind t v ≡ None
-no_note zero t v a b = absurd (a refl)
-no_note (suc zero) t v a b = absurd (b refl)
-no_note (suc (suc k)) t v a b = refl
+no_note kind t v a b = grind arith
 
 -- only a status change changes the session
 pub unproduced : (n : Notification) (s : Session) → ((v : ProductionStatus) → n ≡ ProductionStatusChange v → ⊥) → s ≡ produced (notified n) s
-unproduced (LossOfFrameSynchronization t) s ne = refl
-unproduced (ProductionStatusChange v) s ne = absurd (ne v refl)
-unproduced EndOfData s ne = refl
+unproduced n s ne = grind arith

@@ -1,5 +1,5 @@
 -- What a tick comes to.
-use Rattle.std.proofs.Common.{◌≡◌, suc, ◌<◌, ◌≤◌, true, false, List, [], ◌∷◌, length, refl, arith}
+use Rattle.std.proofs.Common.{◌≡◌, suc, ◌<◌, ◌≤◌, true, false, List, length, arith}
 use Rattle.std.proofs.Math.Bool.{and-false}
 use Rattle.std.proofs.lemmas.Bool.{lt-ltb, le-ltb}
 use Rattle.codec.specs.Records.{Record}
@@ -9,12 +9,10 @@ use Rattle.histories.specs.Calls.{says, quiet}
 use Rattle.histories.specs.Delivery.{send, is_filled, tick_by}
 
 pub empty_is : (rs : List Record) → length rs ≡ 0 → is_filled rs ≡ false
-empty_is [] e = refl
-empty_is (r ∷ rs) e = absurd (omega arith)
+empty_is rs e = grind arith
 
 pub filled_is : (rs : List Record) → 0 < length rs → is_filled rs ≡ true
-filled_is [] p = absurd (omega arith)
-filled_is (r ∷ rs) p = refl
+filled_is rs p = grind arith
 
 module _ (g : Settings) (s : Session) (transport : Queue) where
   pub tick_off : is_active s.phase ≡ false → tick_by g s transport ≡ says s quiet

@@ -5,6 +5,8 @@ use Rattle.provider.specs.declared.answer.MoveAnswer.{MoveAnswer}
 use Rattle.provider.specs.declared.answer.MoveAnswer.TheVariants as move_variants
 use Rattle.provider.specs.declared.answer.TickAnswer.{TickAnswer}
 use Rattle.provider.specs.declared.answer.TickAnswer.TheVariants as tick_variants
+use Rattle.provider.specs.declared.answer.OpeningRefusal.{OpeningRefusal}
+use Rattle.provider.specs.declared.answer.OpeningRefusal.TheVariants as opening_variants
 use Rattle.provider.specs.declared.answer.ReceptionRefusal.{ReceptionRefusal}
 use Rattle.provider.specs.declared.answer.ReceptionRefusal.TheVariants as reception_variants
 use Rattle.provider.specs.declared.answer.CollectionRefusal.{CollectionRefusal}
@@ -13,6 +15,16 @@ use Rattle.provider.specs.declared.answer.Performed.{Performed}
 use Rattle.provider.specs.declared.answer.Performed.TheVariants as performed_variants
 use Rattle.provider.specs.declared.answer.InvocationRefusal.{InvocationRefusal}
 use Rattle.provider.specs.declared.answer.InvocationRefusal.TheVariants as invocation_variants
+
+-- Opening: 0 where it is accepted.
+abbrev pub opening_refusal_number : OpeningRefusal → ℕ
+opening_refusal_number opening_variants.SettingsOutOfRange = 1
+opening_refusal_number opening_variants.QueueNotEmpty = 2
+opening_refusal_number opening_variants.QueueTooNarrow = 3
+
+abbrev pub opening_answer : {X : Type 0} → Result X OpeningRefusal → ℕ
+opening_answer (Ok x) = 0
+opening_answer (Err e) = opening_refusal_number e
 
 -- Acquisition and note.
 abbrev pub reception_number : ReceptionRefusal → ℕ

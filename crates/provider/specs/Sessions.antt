@@ -1,4 +1,5 @@
 -- The code's session, as the provider's definition has it.
+use Rattle.std.specs.Prelude.{◌<◌}
 use Rattle.codec.specs.Invocations.{named}
 use Rattle.histories.specs.Sessions as sessions
 use Rattle.provider.specs.Selections.{phase_of, held_selection}
@@ -18,3 +19,7 @@ session_of s = record {
   production = s.production;
   buffer = buffer_records s.buffer;
 }
+
+-- The transfer buffer has room for one record more.
+abbrev pub HasRoom : Session → Type 0
+HasRoom s = s.buffer.count < s.settings.buffer_size

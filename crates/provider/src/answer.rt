@@ -3,7 +3,7 @@ use codec::fault::Fault;
 mod numbers;
 
 // What a move did.
-#[derive(Clone, Copy)]
+#[derive(Clone, Copy, Debug, PartialEq, Eq)]
 pub enum MoveAnswer {
     Idle,
     Sent,
@@ -14,15 +14,23 @@ pub enum MoveAnswer {
 }
 
 // What a tick did.
-#[derive(Clone, Copy)]
+#[derive(Clone, Copy, Debug, PartialEq, Eq)]
 pub enum TickAnswer {
     Quiet,
     Sent,
     Waiting,
 }
 
+// Why an opening is refused.
+#[derive(Clone, Copy, Debug, PartialEq, Eq)]
+pub enum OpeningRefusal {
+    SettingsOutOfRange,
+    QueueNotEmpty,
+    QueueTooNarrow,
+}
+
 // Why an acquisition or a note is refused.
-#[derive(Clone, Copy)]
+#[derive(Clone, Copy, Debug, PartialEq, Eq)]
 pub enum ReceptionRefusal {
     Closed,
     Quality,
@@ -33,14 +41,14 @@ pub enum ReceptionRefusal {
 }
 
 // Why a collection is refused.
-#[derive(Clone, Copy)]
+#[derive(Clone, Copy, Debug, PartialEq, Eq)]
 pub enum CollectionRefusal {
     NothingWaits,
     BufferTooShort,
 }
 
 // What an accepted invocation did.
-#[derive(Clone, Copy)]
+#[derive(Clone, Copy, Debug, PartialEq, Eq)]
 pub enum Performed {
     Started { id: u16 },
     Stopped { id: u16 },
@@ -49,8 +57,9 @@ pub enum Performed {
     Aborted { lost: usize },
 }
 
-// Why an invocation is refused; the two that end an association tell how many accepted records are lost.
-#[derive(Clone, Copy)]
+// Why an invocation is refused; the two that end an association tell how many accepted records are lost. Not an
+// `InvocationFault` with a number beside it, since no other refusal has such a number.
+#[derive(Clone, Copy, Debug, PartialEq, Eq)]
 pub enum InvocationRefusal {
     Closed,
     Undecodable { fault: Fault, lost: usize },

@@ -1,5 +1,5 @@
 // The phase of the association with the user.
-#[derive(Clone, Copy)]
+#[derive(Clone, Copy, Debug, PartialEq, Eq)]
 pub enum Phase {
     Unbound,
     Ready,

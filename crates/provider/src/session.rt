@@ -1,5 +1,6 @@
 ghost use Rattle.std.specs.Prelude.{◌≤◌};
 
+use crate::answer::OpeningRefusal;
 use crate::phase::Phase;
 use crate::selection::Selection;
 use crate::settings::Settings;
@@ -17,7 +18,7 @@ pub(crate) mod phases;
 #[derive(Drop)]
 pub struct Session {
     pub(crate) settings: Settings,
-    pub(crate) opening: u8,
+    pub(crate) opening: Result<(), OpeningRefusal>,
     pub(crate) phase: Phase,
     pub(crate) selection: Selection,
     pub(crate) end_mark: bool,

@@ -17,7 +17,7 @@ pub const BUFFER_OCTETS: usize = 16_488;
 pub const SHORT_RECORD: usize = 256;
 
 // The records that wait to be sent, as the octets that their PDU will have: the first `used` of these. A discard
-// tells how many of them were accepted from the receiver.
+// tells how many of them were accepted from the receiver. An array with its length, since the provider has no heap.
 #[derive(Drop)]
 pub struct TransferBuffer {
     pub(crate) octets: [u8; BUFFER_OCTETS],

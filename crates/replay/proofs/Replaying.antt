@@ -1,5 +1,6 @@
 -- A replay goes on by a call, and the claim with it.
 use Rattle.std.proofs.Common.{◌≡◌, ℕ, ◌+◌, ◌^◌, ◌<◌, ◌≤◌, List, [], ◌∷◌, ◌++◌, length, get_or, take, sym, refl, ap, ◌∙◌, subst, subst₂, arith, length-take-le, take_all}
+use Rattle.std.specs.Borrow.{Bor}
 use Rattle.std.proofs.lemmas.List.{take_more, length_push}
 use Rattle.histories.specs.Provider.{State}
 use Rattle.histories.specs.Ledger.{Event}
@@ -15,7 +16,7 @@ use Rattle.replay.specs.declared.answer.Answer.{Answer}
 use Rattle.replay.specs.declared.call.Call.{Call}
 use Rattle.replay.proofs.Counting.{Bounded, bounded_nothing, one_counted}
 
-events_push : (es : List Event) (cs : List Call) (answers : List Answer) (c : Call) (a : Answer) → length answers ≡ length cs → events_onto es (cs ++ c ∷ []) (answers ++ a ∷ []) ≡ event_of c a ∷ events_onto es cs answers
+events_push : (es : List Event) (cs : List (Call (Bor (List ℕ)))) (answers : List Answer) (c : Call (Bor (List ℕ))) (a : Answer) → length answers ≡ length cs → events_onto es (cs ++ c ∷ []) (answers ++ a ∷ []) ≡ event_of c a ∷ events_onto es cs answers
 events_push es [] [] c a e = refl
 events_push es [] (x ∷ answers) c a e = absurd (omega arith)
 events_push es (d ∷ cs) [] c a e = absurd (omega arith)
@@ -43,13 +44,13 @@ goes_on first s s' es account account' e r c is = record {
 }
 
 -- where a replay stands after i calls
-pub record Stands (first : State) (cs : List Call) (i : ℕ) (answers : List Answer) (account : Account) (s : State) : Type 0 where
+pub record Stands (first : State) (cs : List (Call (Bor (List ℕ)))) (i : ℕ) (answers : List Answer) (account : Account) (s : State) : Type 0 where
   pub within : i ≤ length cs
   pub answered : length answers ≡ i
   pub bounded : Bounded account i
   pub replays : Replays first (events_of (take i cs) answers) account s
 
-pub begins : (s : State) (cs : List Call) (answers : List Answer) (account : Account) → Begins s → answers ≡ [] → account ≡ nothing → Stands s cs 0 answers account s
+pub begins : (s : State) (cs : List (Call (Bor (List ℕ)))) (answers : List Answer) (account : Account) → Begins s → answers ≡ [] → account ≡ nothing → Stands s cs 0 answers account s
 begins s cs answers account b none_yet zeros = record {
   within = omega arith;
   answered = ap (λ (x : List Answer). length x) none_yet;
@@ -57,13 +58,13 @@ begins s cs answers account b none_yet zeros = record {
   replays = subst (λ (x : Account). Replays s [] x s) (sym zeros) (opens s b);
 }
 
-pub one_more_call : (first s s' : State) (cs : List Call) (i : ℕ) (answers answers' : List Answer) (account account' : Account) (d : Call) (a : Answer) → Stands first cs i answers account s → i < length cs → i + 1 < 2 ^ 64
+pub one_more_call : (first s s' : State) (cs : List (Call (Bor (List ℕ)))) (i : ℕ) (answers answers' : List Answer) (account account' : Account) (d : Call (Bor (List ℕ))) (a : Answer) → Stands first cs i answers account s → i < length cs → i + 1 < 2 ^ 64
     → Called s (event_of (get_or cs i d) a) s' → Becomes (counted (answer_of a) account) account' → answers' ≡ answers ++ a ∷ [] → Stands first cs (i + 1) answers' account' s'
 one_more_call first s s' cs i answers answers' account account' d a st lt few called becomes pushed =
     let more = one_counted (answer_of a) account account' i st.bounded few becomes in
     let events : events_of (take (i + 1) cs) answers' ≡ event_of (get_or cs i d) a ∷ events_of (take i cs) answers =
     ap (λ (x : List Answer). events_of (take (i + 1) cs) x) pushed
-    ∙ ap (λ (x : List Call). events_of x (answers ++ a ∷ [])) (take_more cs i d lt)
+    ∙ ap (λ (x : List (Call (Bor (List ℕ)))). events_of x (answers ++ a ∷ [])) (take_more cs i d lt)
     ∙ events_push [] (take i cs) answers (get_or cs i d) a (st.answered ∙ sym (length-take-le i cs st.within)) in
     record {
       within = omega arith;
@@ -72,7 +73,7 @@ one_more_call first s s' cs i answers answers' account account' d a st lt few ca
       replays = subst (λ (x : List Event). Replays first x account' s') (sym events) (goes_on first s s' _ account account' (event_of (get_or cs i d) a) st.replays called more.0);
     }
 
-pub all_played : (opened first last : State) (cs : List Call) (i : ℕ) (answers : List Answer) (account : Account) → first ≡ opened → length cs ≤ i → Stands first cs i answers account last
+pub all_played : (opened first last : State) (cs : List (Call (Bor (List ℕ)))) (i : ℕ) (answers : List Answer) (account : Account) → first ≡ opened → length cs ≤ i → Stands first cs i answers account last
     → (length answers ≡ length cs) × Replays opened (events_of cs answers) account last
 all_played opened first last cs i answers account is le st =
-    (omega (arith, st.answered, st.within), subst₂ (λ (x : State) (y : List Call). Replays x (events_of y answers) account last) is (take_all i cs le) st.replays)
+    (omega (arith, st.answered, st.within), subst₂ (λ (x : State) (y : List (Call (Bor (List ℕ)))). Replays x (events_of y answers) account last) is (take_all i cs le) st.replays)

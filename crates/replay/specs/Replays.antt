@@ -1,5 +1,6 @@
 -- A replay: calls made one after the other on a provider that was just opened.
-use Rattle.std.specs.Prelude.{◌≡◌, List, [], ◌∷◌}
+use Rattle.std.specs.Prelude.{◌≡◌, ℕ, List, [], ◌∷◌}
+use Rattle.std.specs.Borrow.{Bor}
 use Rattle.histories.specs.Provider.{State}
 use Rattle.histories.specs.Ledger.{Event, blank, ledger}
 use Rattle.histories.specs.Histories.{Step, History}
@@ -10,12 +11,12 @@ use Rattle.replay.specs.declared.answer.Answer.{Answer}
 use Rattle.replay.specs.declared.call.Call.{Call}
 
 -- The events of calls and their answers, the newest first, on top of earlier ones.
-abbrev pub events_onto : List Event → List Call → List Answer → List Event
+abbrev pub events_onto : List Event → List (Call (Bor (List ℕ))) → List Answer → List Event
 events_onto es [] answers = es
 events_onto es (c ∷ cs) [] = es
 events_onto es (c ∷ cs) (a ∷ answers) = events_onto (event_of c a ∷ es) cs answers
 
-abbrev pub events_of : List Call → List Answer → List Event
+abbrev pub events_of : List (Call (Bor (List ℕ))) → List Answer → List Event
 events_of cs answers = events_onto [] cs answers
 
 -- Each call, made on the result of the one before, does what is defined.

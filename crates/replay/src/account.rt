@@ -8,7 +8,7 @@ use provider::answer::{InvocationRefusal, MoveAnswer, Performed, TickAnswer};
 
 // How many records were accepted, and how many of them came to what; how many PDUs were sent to the transport, and
 // how many collected there.
-#[derive(Clone, Copy)]
+#[derive(Clone, Copy, Debug, Default, PartialEq, Eq)]
 pub struct Account {
     pub accepted: u64,
     pub handed_over: u64,
@@ -24,16 +24,7 @@ impl Account {
     pub fn new() -> Account
         ensures { account_of result ≡ nothing }
     {
-        Account {
-            accepted: 0,
-            handed_over: 0,
-            pending: 0,
-            untaken: 0,
-            passed_over: 0,
-            discarded: 0,
-            pdus_sent: 0,
-            pdus_collected: 0,
-        }
+        Account::default()
     }
 
     // One answer more. A number that would have more than 64 bits stays the largest of 64 bits.

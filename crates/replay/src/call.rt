@@ -1,19 +1,20 @@
-// A call of a provider, with what it is given. The numbers of a quality, a time, a type and a status are unchecked; a
-// collection is into a buffer of so many octets.
-#[derive(Clone, Copy)]
-pub enum Call<'a> {
+ghost use Rattle.std.specs.Prelude.{◌≡◌};
+ghost use Rattle.replay.specs.Events.{call_of, call_owned};
+
+use codec::time::TimeNumbers;
+
+// A call of a provider, with what it is given; `O` holds octets. The numbers of a quality, a time, a type and a status
+// are unchecked; a collection is into a buffer of so many octets.
+#[derive(Clone, Copy, Drop)]
+pub enum Call<O> {
     Acquire {
         quality: u8,
-        day: u16,
-        millisecond: u32,
-        microsecond: u32,
-        data: &'a [u8],
+        time: TimeNumbers,
+        data: O,
     },
     Note {
         kind: u8,
-        day: u16,
-        millisecond: u32,
-        microsecond: u32,
+        time: TimeNumbers,
         status: u8,
     },
     Move,
@@ -22,15 +23,38 @@ pub enum Call<'a> {
         capacity: usize,
     },
     Invoke {
-        octets: &'a [u8],
+        octets: O,
     },
 }
 
-// What a provider is opened with beside its two queues.
-#[derive(Clone, Copy)]
-pub struct Opening<'a> {
-    pub buffer_size: u32,
-    pub latency_limit: u32,
-    pub version: u32,
-    pub identifier: &'a [u8],
+impl Call<Vec<u8>> {
+    // The call, with its octets lent.
+    pub fn lent(&self) -> Call<&[u8]>
+        ensures { call_of result ≡ call_owned self.now }
+    {
+        match self {
+            Call::Acquire {
+                quality,
+                time,
+                data,
+            } => Call::Acquire {
+                quality: *quality,
+                time: *time,
+                data: data.as_slice(),
+            },
+            Call::Note { kind, time, status } => Call::Note {
+                kind: *kind,
+                time: *time,
+                status: *status,
+            },
+            Call::Move => Call::Move,
+            Call::Tick => Call::Tick,
+            Call::Collect { capacity } => Call::Collect {
+                capacity: *capacity,
+            },
+            Call::Invoke { octets } => Call::Invoke {
+                octets: octets.as_slice(),
+            },
+        }
+    }
 }

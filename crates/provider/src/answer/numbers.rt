@@ -1,7 +1,21 @@
 ghost use Rattle.std.specs.Prelude.{◌≡◌};
-ghost use Rattle.provider.specs.Answers.{reception_number, collection_number, invocation_number};
+ghost use Rattle.provider.specs.Answers.{opening_refusal_number, reception_number, collection_number, invocation_number};
 
-use super::{CollectionRefusal, InvocationRefusal, ReceptionRefusal};
+use super::{CollectionRefusal, InvocationRefusal, OpeningRefusal, ReceptionRefusal};
+
+// Each refusal has its number by a method, whose name says what the number is.
+impl OpeningRefusal {
+    // The number of the refusal.
+    pub fn number(self) -> u8
+        ensures { result ≡ opening_refusal_number self }
+    {
+        match self {
+            OpeningRefusal::SettingsOutOfRange => 1,
+            OpeningRefusal::QueueNotEmpty => 2,
+            OpeningRefusal::QueueTooNarrow => 3,
+        }
+    }
+}
 
 impl ReceptionRefusal {
     // The number of the refusal.

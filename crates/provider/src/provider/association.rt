@@ -1,7 +1,7 @@
 ghost use Rattle.std.specs.Prelude.{[]};
 ghost use Rattle.histories.specs.Calls.{invoke};
 ghost use Rattle.provider.specs.Answers.{invocation_answer};
-ghost use Rattle.provider.specs.States.{state_of, event, Called};
+ghost use Rattle.provider.specs.States.{state_of, event, Does};
 
 use super::Provider;
 use crate::answer::{InvocationRefusal, Performed};
@@ -10,7 +10,7 @@ use queue::interface::Queue;
 impl<F: Queue, T: Queue> Provider<F, T> {
     // An invocation from the user, as any octets.
     pub fn invoke(&mut self, octets: &[u8]) -> Result<Performed, InvocationRefusal>
-        ensures { Called (state_of F.Meaning T.Meaning self.old) (event (invoke octets.now) (invocation_answer result) []) (state_of F.Meaning T.Meaning self.new) }
+        ensures { Does F.Meaning T.Meaning self.old (event (invoke octets.now) (invocation_answer result) []) self.new }
     {
         self.session.invoke(octets)
     }

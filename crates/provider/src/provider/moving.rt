@@ -5,7 +5,8 @@ ghost use Rattle.codec.specs.Limits.{longest_record};
 ghost use Rattle.codec.specs.RecordReading.{one_record};
 ghost use Rattle.queue.specs.Answers.{gives, first_answer};
 ghost use Rattle.provider.specs.Answers.{move_answer};
-ghost use Rattle.provider.specs.States.{state_of, event, Leads, Called};
+ghost use Rattle.provider.specs.Sessions.{HasRoom};
+ghost use Rattle.provider.specs.States.{state_of, event, Does, ComesTo};
 
 use super::Provider;
 use crate::answer::MoveAnswer;
@@ -17,15 +18,15 @@ impl<F: Queue, T: Queue> Provider<F, T> {
     // Looks at the frame buffer's oldest record, which is the front of a local array: it ends the run, goes to the
     // transfer buffer, or is passed over.
     fn take_by<const SIZE: usize>(&mut self, copy: &[u8; SIZE], length: usize) -> MoveAnswer
-        requires room { self.old.session.buffer.count < self.old.session.settings.buffer_size }
+        requires room { HasRoom self.old.session }
         requires within { SIZE ≤ longest_record }
         requires holds { length ≤ SIZE }
         requires held { gives length ≡ first_answer (F.Meaning.held self.old.frames) }
         requires read { oldest (F.Meaning.held self.old.frames) ≡ one_record (take length copy.now) }
-        ensures { Leads (state_of F.Meaning T.Meaning self.old) (move_record (state_of F.Meaning T.Meaning self.old).session (oldest (state_of F.Meaning T.Meaning self.old).frames.held)) (move_answer result) (state_of F.Meaning T.Meaning self.new) }
+        ensures { ComesTo F.Meaning T.Meaning self.old (λ s. move_record s.session (oldest s.frames.held)) (move_answer result) self.new }
     {
         let local = &copy[..];
-        let Some(content) = one_record(&local[0..length]) else {
+        let Some(content) = one_record(&local[..length]) else {
             return MoveAnswer::Idle;
         };
         if self.session.selection.is_late(&content) {
@@ -33,7 +34,7 @@ impl<F: Queue, T: Queue> Provider<F, T> {
             return MoveAnswer::Ended;
         }
         if self.session.selection.selects(&content) {
-            self.session.enter(&local[0..length], &content);
+            self.session.enter(&local[..length], &content);
             let _ = self.frames.drop();
             return MoveAnswer::Moved;
         }
@@ -42,10 +43,10 @@ impl<F: Queue, T: Queue> Provider<F, T> {
     }
 
     // Looks at the frame buffer's oldest record, by way of the smaller of two local arrays that holds it, since an array
-    // is cleared before it is filled.
+    // is cleared before it is filled: one array of the larger size for both is too slow.
     fn take_oldest(&mut self) -> MoveAnswer
-        requires { self.old.session.buffer.count < self.old.session.settings.buffer_size }
-        ensures { Leads (state_of F.Meaning T.Meaning self.old) (move_record (state_of F.Meaning T.Meaning self.old).session (oldest (state_of F.Meaning T.Meaning self.old).frames.held)) (move_answer result) (state_of F.Meaning T.Meaning self.new) }
+        requires { HasRoom self.old.session }
+        ensures { ComesTo F.Meaning T.Meaning self.old (λ s. move_record s.session (oldest s.frames.held)) (move_answer result) self.new }
     {
         let Ok(length) = self.frames.first_length() else {
             return MoveAnswer::Idle;
@@ -65,17 +66,15 @@ impl<F: Queue, T: Queue> Provider<F, T> {
 
     // One step on the way from the frame buffer to the transport.
     pub fn move_record(&mut self) -> MoveAnswer
-        ensures { Called (state_of F.Meaning T.Meaning self.old) (event move (move_answer result) []) (state_of F.Meaning T.Meaning self.new) }
+        ensures { Does F.Meaning T.Meaning self.old (event move (move_answer result) []) self.new }
     {
         if !self.session.is_active() {
             return MoveAnswer::Idle;
         }
         if self.session.must_send() {
-            return if self.send() {
-                MoveAnswer::Sent
-            } else {
-                MoveAnswer::Waiting
-            };
+            return self
+                .send()
+                .map_or(MoveAnswer::Waiting, |()| MoveAnswer::Sent);
         }
         if self.session.end_mark {
             return MoveAnswer::Idle;

@@ -5,7 +5,7 @@ ghost use Rattle.codec.specs.Times.{stamp};
 ghost use Rattle.histories.specs.Calls.{acquire, note};
 ghost use Rattle.histories.specs.Provider.{admit, receive};
 ghost use Rattle.provider.specs.Answers.{reception_answer};
-ghost use Rattle.provider.specs.States.{state_of, numbers, event, Leads, Called, Offered};
+ghost use Rattle.provider.specs.States.{state_of, numbers, event, Does, ComesTo, offering};
 
 use super::Provider;
 use crate::answer::ReceptionRefusal;
@@ -14,7 +14,7 @@ use codec::record::{
     FRAME_HEADER_LENGTH, LONGEST_RECORD, Notification, ProductionStatus, Quality, write_frame,
     write_notification,
 };
-use codec::time::Time;
+use codec::time::{Time, TimeNumbers};
 use queue::interface::Queue;
 
 // The data of a short record.
@@ -22,13 +22,12 @@ const SHORT_DATA: usize = SHORT_RECORD - FRAME_HEADER_LENGTH;
 
 impl<F: Queue, T: Queue> Provider<F, T> {
     // Puts a record's octets into the frame buffer, if there is room.
-    fn offer(&mut self, octets: &[u8]) -> bool
-        ensures { Offered (state_of F.Meaning T.Meaning self.old) octets.now result (state_of F.Meaning T.Meaning self.new) }
+    fn offer(&mut self, octets: &[u8]) -> Result<(), ReceptionRefusal>
+        ensures { ComesTo F.Meaning T.Meaning self.old (λ s. offering s.session s.frames octets.now) (reception_answer result) self.new }
     {
-        match self.frames.add(octets) {
-            Ok(()) => true,
-            Err(_) => false,
-        }
+        self.frames
+            .add(octets)
+            .map_err(|_| ReceptionRefusal::NoRoom)
     }
 
     // Puts a frame into the frame buffer, by way of so many local octets, if its data have an allowed length and there is
@@ -42,26 +41,23 @@ impl<F: Queue, T: Queue> Provider<F, T> {
     ) -> Result<(), ReceptionRefusal>
         requires size { length local.old ≡ SIZE }
         requires fits { length «data».now ≤ data_limit → length «data».now + 13 ≤ SIZE }
-        ensures { Leads (state_of F.Meaning T.Meaning self.old) (receive (state_of F.Meaning T.Meaning self.old).session (state_of F.Meaning T.Meaning self.old).frames 10 (Some (frame quality (stamp time) «data».now))) (reception_answer result) (state_of F.Meaning T.Meaning self.new) }
+        ensures { ComesTo F.Meaning T.Meaning self.old (λ s. receive s.session s.frames 10 (Some (frame quality (stamp time) «data».now))) (reception_answer result) self.new }
     {
-        let Ok(length) = write_frame(local, quality, time, data) else {
-            return Err(ReceptionRefusal::DataLength);
-        };
-        if !self.offer(&local[0..length]) {
-            return Err(ReceptionRefusal::NoRoom);
-        }
-        Ok(())
+        let length = write_frame(local, quality, time, data).map_err(
+            |_| ReceptionRefusal::DataLength,
+        )?;
+        self.offer(&local[..length])
     }
 
     // Puts a frame into the frame buffer, by way of the smaller of two local arrays that holds it, since an array is
-    // cleared before it is filled.
+    // cleared before it is filled: one array of the larger size for both is too slow.
     fn receive_frame(
         &mut self,
         quality: Quality,
         time: Time,
         data: &[u8],
     ) -> Result<(), ReceptionRefusal>
-        ensures { Leads (state_of F.Meaning T.Meaning self.old) (receive (state_of F.Meaning T.Meaning self.old).session (state_of F.Meaning T.Meaning self.old).frames 10 (Some (frame quality (stamp time) «data».now))) (reception_answer result) (state_of F.Meaning T.Meaning self.new) }
+        ensures { ComesTo F.Meaning T.Meaning self.old (λ s. receive s.session s.frames 10 (Some (frame quality (stamp time) «data».now))) (reception_answer result) self.new }
     {
         if data.len() <= SHORT_DATA {
             let mut local = [0; SHORT_RECORD];
@@ -75,36 +71,29 @@ impl<F: Queue, T: Queue> Provider<F, T> {
     pub fn acquire(
         &mut self,
         quality: u8,
-        day: u16,
-        millisecond: u32,
-        microsecond: u32,
+        time: TimeNumbers,
         data: &[u8],
     ) -> Result<(), ReceptionRefusal>
-        ensures { Called (state_of F.Meaning T.Meaning self.old) (event (acquire quality (numbers day millisecond microsecond) «data».now) (reception_answer result) []) (state_of F.Meaning T.Meaning self.new) }
+        ensures { Does F.Meaning T.Meaning self.old (event (acquire quality (numbers time) «data».now) (reception_answer result) []) self.new }
     {
         if self.session.is_closed() {
             return Err(ReceptionRefusal::Closed);
         }
-        let Some(quality) = Quality::from_octet(quality) else {
-            return Err(ReceptionRefusal::Quality);
-        };
-        let Ok(time) = Time::new(day, millisecond, microsecond) else {
-            return Err(ReceptionRefusal::Time);
-        };
+        let quality = Quality::try_from(quality).map_err(|_| ReceptionRefusal::Quality)?;
+        let time = Time::try_from(time).map_err(|_| ReceptionRefusal::Time)?;
         self.receive_frame(quality, time, data)
     }
 
     // Puts a notification into the frame buffer, if there is room; a status change then sets the production status.
     fn receive_notification(&mut self, notification: Notification) -> Result<(), ReceptionRefusal>
-        ensures { Leads (state_of F.Meaning T.Meaning self.old) (admit (state_of F.Meaning T.Meaning self.old).session (state_of F.Meaning T.Meaning self.old).frames (notified notification)) (reception_answer result) (state_of F.Meaning T.Meaning self.new) }
+        ensures { ComesTo F.Meaning T.Meaning self.old (λ s. admit s.session s.frames (notified notification)) (reception_answer result) self.new }
     {
         let mut local = [0; LONGEST_RECORD];
-        let Ok(length) = write_notification(&mut local, notification) else {
-            return Err(ReceptionRefusal::NoRoom);
-        };
-        if !self.offer(&local[0..length]) {
-            return Err(ReceptionRefusal::NoRoom);
-        }
+        // This never refuses, since the array holds the longest notification.
+        let length = write_notification(&mut local, notification).map_err(
+            |_| ReceptionRefusal::NoRoom,
+        )?;
+        self.offer(&local[..length])?;
         if let Notification::ProductionStatusChange(status) = notification {
             self.session.production = status;
         }
@@ -112,33 +101,24 @@ impl<F: Queue, T: Queue> Provider<F, T> {
     }
 
     // A note from the receiver: type 0 is a loss of frame synchronization at a time, type 1 a production status.
-    pub fn note(
-        &mut self,
-        kind: u8,
-        day: u16,
-        millisecond: u32,
-        microsecond: u32,
-        status: u8,
-    ) -> Result<(), ReceptionRefusal>
-        ensures { Called (state_of F.Meaning T.Meaning self.old) (event (note kind (numbers day millisecond microsecond) status) (reception_answer result) []) (state_of F.Meaning T.Meaning self.new) }
+    pub fn note(&mut self, kind: u8, time: TimeNumbers, status: u8) -> Result<(), ReceptionRefusal>
+        ensures { Does F.Meaning T.Meaning self.old (event (note kind (numbers time) status) (reception_answer result) []) self.new }
     {
         if self.session.is_closed() {
             return Err(ReceptionRefusal::Closed);
         }
-        if kind == 0 {
-            return match Time::new(day, millisecond, microsecond) {
-                Ok(time) => self.receive_notification(Notification::LossOfFrameSynchronization(
-                    time,
-                )),
-                Err(_) => Err(ReceptionRefusal::Time),
-            };
-        }
-        if kind != 1 {
-            return Err(ReceptionRefusal::NoteTypeOrStatus);
-        }
-        match ProductionStatus::from_octet(status) {
-            Some(status) => self.receive_notification(Notification::ProductionStatusChange(status)),
-            None => Err(ReceptionRefusal::NoteTypeOrStatus),
+        match kind {
+            0 => {
+                let time = Time::try_from(time).map_err(|_| ReceptionRefusal::Time)?;
+                self.receive_notification(Notification::LossOfFrameSynchronization(time))
+            }
+            1 => {
+                let status = ProductionStatus::try_from(status).map_err(
+                    |_| ReceptionRefusal::NoteTypeOrStatus,
+                )?;
+                self.receive_notification(Notification::ProductionStatusChange(status))
+            }
+            _ => Err(ReceptionRefusal::NoteTypeOrStatus),
         }
     }
 }

@@ -1,32 +1,23 @@
 ghost use Rattle.std.specs.Prelude.{◌≡◌, not, ◌&&◌};
 ghost use Rattle.codec.specs.RecordReading.{said};
-ghost use Rattle.codec.specs.Times.{stamp, stamp_if, compared};
-ghost use Rattle.histories.specs.Sessions.{requests, is_before, before_start, empty_span};
+ghost use Rattle.codec.specs.Times.{stamp, stamp_if};
+ghost use Rattle.histories.specs.Sessions.{requests, before_start, empty_span};
 ghost use Rattle.provider.specs.Selections.{held_selection, late_content, selected_content};
 
 use super::Selection;
 use codec::invocation::RequestedQuality;
 use codec::record::{Quality, RecordContent};
-use codec::time::{Time, TimeOrder};
+use codec::time::Time;
 
 fn requests(requested: RequestedQuality, quality: Quality) -> bool
     ensures { result ≡ requests requested quality }
 {
-    match (requested, quality) {
-        (RequestedQuality::All, _) => true,
-        (RequestedQuality::GoodOnly, Quality::Good) => true,
-        (RequestedQuality::ErredOnly, Quality::Erred) => true,
-        _ => false,
-    }
-}
-
-fn is_before(time: &Time, other: &Time) -> bool
-    ensures { result ≡ is_before (compared (stamp time.now) (stamp other.now)) }
-{
-    match time.compare(other) {
-        TimeOrder::Before => true,
-        _ => false,
-    }
+    matches!(
+        (requested, quality),
+        (RequestedQuality::All, _)
+            | (RequestedQuality::GoodOnly, Quality::Good)
+            | (RequestedQuality::ErredOnly, Quality::Erred)
+    )
 }
 
 impl Selection {
@@ -34,10 +25,7 @@ impl Selection {
     fn is_early(&self, time: &Time) -> bool
         ensures { result ≡ before_start (stamp time.now) (stamp_if self.now.start) }
     {
-        match &self.start {
-            Some(start) => is_before(time, start),
-            None => false,
-        }
+        self.start.is_some_and(|start| *time < start)
     }
 
     // Whether a record is a frame later than stop.
@@ -45,10 +33,7 @@ impl Selection {
         ensures { result ≡ late_content (held_selection self.now) (said content.now) }
     {
         match content {
-            RecordContent::Frame { time, .. } => match &self.stop {
-                Some(stop) => is_before(stop, time),
-                None => false,
-            },
+            RecordContent::Frame { time, .. } => self.stop.is_some_and(|stop| stop < *time),
             RecordContent::Notification(_) => false,
         }
     }
@@ -68,9 +53,8 @@ impl Selection {
     pub(crate) fn is_empty_span(&self) -> bool
         ensures { result ≡ empty_span (stamp_if self.now.start) (stamp_if self.now.stop) }
     {
-        match (&self.start, &self.stop) {
-            (Some(start), Some(stop)) => !is_before(start, stop),
-            _ => false,
-        }
+        self.start
+            .zip(self.stop)
+            .is_some_and(|(start, stop)| start >= stop)
     }
 }

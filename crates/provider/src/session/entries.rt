@@ -5,7 +5,7 @@ ghost use Rattle.histories.specs.Provider.{must_send};
 ghost use Rattle.histories.specs.Sessions.{aged, holding, age_at_entry, entered, marked};
 ghost use Rattle.provider.specs.Buffers.{record_list};
 ghost use Rattle.provider.specs.Invoking.{Unopened};
-ghost use Rattle.provider.specs.Sessions.{settings_of, session_of};
+ghost use Rattle.provider.specs.Sessions.{settings_of, session_of, HasRoom};
 
 use super::Session;
 use codec::record::{NOTIFICATION_LENGTH, Notification, RecordContent, write_notification};
@@ -20,7 +20,7 @@ impl Session {
 
     // A record enters the transfer buffer; only the entry of the first one sets the age to 0.
     pub(crate) fn enter(&mut self, octets: &[u8], content: &RecordContent)
-        requires room { self.old.buffer.count < self.old.settings.buffer_size }
+        requires room { HasRoom self.old }
         requires one { Some (said content.now) ≡ content_if (one_record octets.now) }
         ensures session { session_of self.new ≡ holding ((session_of self.old).buffer ++ record_list (one_record octets.now)) (aged (age_at_entry (session_of self.old).buffer self.old.age) (session_of self.old)) }
         ensures kept { Unopened self.old self.new }
@@ -33,7 +33,7 @@ impl Session {
 
     // End of data enters the transfer buffer, and the end mark is set.
     pub(crate) fn enter_end_of_data(&mut self)
-        requires room { self.old.buffer.count < self.old.settings.buffer_size }
+        requires room { HasRoom self.old }
         ensures session { session_of self.new ≡ marked (entered end_of_data (session_of self.old)) }
         ensures kept { Unopened self.old self.new }
     {

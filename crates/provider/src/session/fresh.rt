@@ -1,9 +1,11 @@
 ghost use Rattle.std.specs.Prelude.{◌≡◌};
 ghost use Rattle.histories.specs.Provider.{fresh};
-ghost use Rattle.provider.specs.Opening.{first_phase};
-ghost use Rattle.provider.specs.Sessions.{session_of};
+ghost use Rattle.provider.specs.Answers.{opening_answer};
+ghost use Rattle.provider.specs.Opening.{first_phase, kept_settings};
+ghost use Rattle.provider.specs.Sessions.{settings_of, session_of};
 
 use super::Session;
+use crate::answer::OpeningRefusal;
 use crate::phase::Phase;
 use crate::selection::Selection;
 use crate::settings::Settings;
@@ -13,19 +15,19 @@ use codec::record::ProductionStatus;
 
 impl Session {
     // The session that an opening begins: unbound if it was accepted, else closed.
-    pub(crate) fn fresh(opening: u8, settings: Settings) -> Session
-        ensures session { session_of result ≡ fresh (first_phase opening) }
-        ensures settings { result.settings ≡ settings }
-        ensures opening { result.opening ≡ opening }
+    pub(crate) fn fresh(accepted: Result<Settings, OpeningRefusal>) -> Session
+        ensures session { session_of result ≡ fresh (first_phase (opening_answer accepted)) }
+        ensures settings { settings_of result.settings ≡ kept_settings accepted }
+        ensures opening { opening_answer result.opening ≡ opening_answer accepted }
     {
+        let (opening, phase, settings) = match accepted {
+            Ok(settings) => (Ok(()), Phase::Unbound, settings),
+            Err(refusal) => (Err(refusal), Phase::Closed, Settings::least()),
+        };
         Session {
             settings,
             opening,
-            phase: if opening == 0 {
-                Phase::Unbound
-            } else {
-                Phase::Closed
-            },
+            phase,
             selection: Selection {
                 quality: RequestedQuality::All,
                 start: None,

@@ -15,6 +15,7 @@ use crate::selection::Selection;
 use codec::invocation::{Identifier, Invocation, InvocationFault, UnbindReason, read_invocation};
 use codec::record::ProductionStatus;
 
+// What a call leaves as it was stands by each (`Unopened`): no invariant can speak of before and after.
 impl Session {
     // Discards the transfer buffer and ends the association; answers how many accepted records are lost.
     fn discard(&mut self) -> usize
@@ -29,11 +30,12 @@ impl Session {
     }
 
     // A START sets the selection and clears the end mark; what the transfer buffer has it keeps.
+    #[tactic(auto, unfolding(histories::specs::Invocations::start_by))]
     fn start(&mut self, id: u16, selection: Selection) -> Result<Performed, InvocationFault>
         ensures performs { Performs result (start_by (session_of self.old) active id (held_selection selection)) self.old self.new }
         ensures kept { Unopened self.old self.new }
     {
-        if let ProductionStatus::Halted = self.production {
+        if self.production == ProductionStatus::Halted {
             return Err(InvocationFault::OutOfService);
         }
         if selection.is_empty_span() {
@@ -46,6 +48,7 @@ impl Session {
     }
 
     // A BIND brings the provider's identifier, and its version or a higher one.
+    #[tactic(auto, unfolding(histories::specs::Invocations::bind_by))]
     fn bind(
         &mut self,
         id: u16,
@@ -55,7 +58,7 @@ impl Session {
         ensures performs { Performs result (bind_by (settings_of self.old.settings) (session_of self.old) ready id version (named identifier)) self.old self.new }
         ensures kept { Unopened self.old self.new }
     {
-        if !identifier.same(&self.settings.identifier) {
+        if identifier != self.settings.identifier {
             return Err(InvocationFault::AccessDenied);
         }
         if version < self.settings.version {
@@ -68,7 +71,8 @@ impl Session {
         })
     }
 
-    // Phase and operation together decide: this table is the whole decision.
+    // Phase and operation together decide: this table is the whole decision, and is kept in one piece.
+    #[tactic(auto, unfolding(histories::specs::Invocations::table))]
     fn perform(&mut self, invocation: Invocation) -> Result<Performed, InvocationFault>
         ensures performs { Performs result (by_cell (settings_of self.old.settings) (session_of self.old) (requested invocation) (table (session_of self.old).phase (requested invocation))) self.old self.new }
         ensures kept { Unopened self.old self.new }
@@ -154,11 +158,13 @@ impl Session {
     }
 
     // Does what an invocation of any octets asks, or refuses it.
+    #[tactic(auto, unfolding(histories::specs::Invocations::invoke_by))]
     pub(crate) fn invoke(&mut self, octets: &[u8]) -> Result<Performed, InvocationRefusal>
         ensures answer { invocation_answer result ≡ (invoke_by (settings_of self.old.settings) (session_of self.old) octets.now).answer }
         ensures session { session_of self.new ≡ (invoke_by (settings_of self.old.settings) (session_of self.old) octets.now).session }
         ensures kept { Unopened self.old self.new }
     {
+        // No `map_err`: it is not proved what a closure that may change `self` leaves of it.
         match self.attempt(octets) {
             Ok(performed) => Ok(performed),
             Err(fault) => Err(self.refuse(fault)),

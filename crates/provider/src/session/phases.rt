@@ -9,18 +9,12 @@ impl Session {
     pub(crate) fn is_active(&self) -> bool
         ensures { result ≡ is_active (session_of self.now).phase }
     {
-        match self.phase {
-            Phase::Active => true,
-            _ => false,
-        }
+        self.phase == Phase::Active
     }
 
     pub(crate) fn is_closed(&self) -> bool
         ensures { result ≡ is_closed (session_of self.now).phase }
     {
-        match self.phase {
-            Phase::Closed => true,
-            _ => false,
-        }
+        self.phase == Phase::Closed
     }
 }

@@ -1,4 +1,5 @@
 ghost use Rattle.std.specs.Prelude.{◌≡◌, ◌+◌, ◌<◌, ◌≤◌, [], ◌++◌, length, take, drop, if◌then◌else◌, Some};
+ghost use Rattle.codec.specs.Blocks.{placed};
 ghost use Rattle.codec.specs.RecordReading.{said, content_if, one_record};
 ghost use Rattle.histories.specs.Provider.{most_records};
 ghost use Rattle.provider.specs.Buffers.{accepted_content, buffer_octets, record_list};
@@ -11,25 +12,24 @@ use codec::record::{Notification, RecordContent};
 fn accepted_weight(content: &RecordContent) -> usize
     ensures { result ≡ (if accepted_content (said content.now) then 1 else 0) }
 {
-    match *content {
-        RecordContent::Frame { .. } => 1,
-        RecordContent::Notification(notification) => match notification {
-            Notification::EndOfData => 0,
-            _ => 1,
-        },
+    match content {
+        RecordContent::Notification(Notification::EndOfData) => 0,
+        _ => 1,
     }
 }
 
-// Writes octets from a place on, and leaves the rest.
+// Writes octets from a place on, and leaves the rest. Codec has the same for itself; as a public call it could not
+// require that the octets fit, since no public call requires anything.
 fn write_at(out: &mut [u8], place: usize, octets: &[u8])
     requires { place + length octets.now ≤ length out.old }
-    ensures { out.new ≡ take place out.old ++ (octets.now ++ drop (place + length octets.now) out.old) }
+    ensures { out.new ≡ placed out.old place octets.now }
 {
-    let end = place + octets.len();
-    out[place..end].copy_from_slice(octets);
+    out[place..place + octets.len()].copy_from_slice(octets);
 }
 
 impl TransferBuffer {
+    // None held. Written out, since what is derived would not prove the invariants.
+    #[tactic(auto, using(crate::proofs::Buffers::none_held))]
     pub(crate) fn new() -> TransferBuffer
         ensures none { buffer_records result ≡ [] }
         ensures count { result.count ≡ 0 }
@@ -61,13 +61,11 @@ impl TransferBuffer {
         requires { SIZE ≤ buffer_octets }
         ensures { result ≡ take SIZE self.now.octets }
     {
-        match self.octets.first_chunk::<SIZE>() {
-            Some(front) => *front,
-            None => [0; SIZE],
-        }
+        *self.octets.first_chunk::<SIZE>().unwrap()
     }
 
     // Takes all records out.
+    #[tactic(auto, using(crate::proofs::Buffers::none_held))]
     pub(crate) fn clear(&mut self)
         ensures none { buffer_records self.new ≡ [] }
         ensures count { self.new.count ≡ 0 }

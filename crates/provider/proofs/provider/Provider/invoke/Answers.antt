@@ -1,7 +1,7 @@
 use Rattle.std.proofs.Common.{[], refl, ap}
 use Rattle.histories.specs.Calls.{invoke, says}
 use Rattle.histories.specs.Invocations.{invoke_by}
-use Rattle.provider.specs.Answers.{invocation_answer}
+use Rattle.provider.specs.Answers.{invocation_answer, opening_answer}
 use Rattle.provider.specs.Sessions.{settings_of, session_of}
 use Rattle.provider.specs.States.{state_of}
 use Rattle.provider.proofs.Claims.{called}
@@ -17,7 +17,7 @@ returns g c =
     (record {
       answer = c.invoke.ensures.answer;
       settings = ap settings_of c.invoke.ensures.kept.settings;
-      opening = c.invoke.ensures.kept.opening;
+      opening = ap opening_answer c.invoke.ensures.kept.opening;
       session = c.invoke.ensures.session;
       frames = refl;
       transport = refl;

@@ -1,11 +1,12 @@
-use Rattle.std.proofs.Common.{[], sym, refl, ◌∙◌}
-use Rattle.histories.specs.Calls.{move, idle, sent, waiting, says}
+use Rattle.std.proofs.Common.{◌≡◌, [], MatchResult, sym, refl, ◌∙◌, rules}
+use Rattle.histories.specs.Calls.{move, idle, says}
 use Rattle.histories.specs.Delivery.{send}
 use Rattle.histories.specs.Provider.{oldest, move_record}
 use Rattle.provider.specs.Answers.{move_answer}
+use Rattle.provider.specs.declared.answer.MoveAnswer.TheVariants.{Sent, Waiting}
 use Rattle.provider.specs.States.{state_of}
-use Rattle.provider.proofs.Claims.{stays, called}
-use Rattle.provider.proofs.Sending.{copies_nothing}
+use Rattle.provider.proofs.Claims.{stays, called, answering}
+use Rattle.provider.proofs.Sending.{copies_nothing, sending_answer}
 use Rattle.provider.proofs.Moving.{move_off, move_sends, move_rests, move_looks, quiet_move}
 use Rattle.provider.proofs.provider.Provider.move_record.Goals as goal
 
@@ -14,15 +15,12 @@ returns-then-not-is_active g c =
     let s = state_of g.F.Meaning g.T.Meaning c.args.self.now in
     called s s move idle [] (says s.session idle) (move_off s (sym c.is_active.ensures ∙ c.if-not-is_active.true)) refl (stays s idle)
 
-pub returns-then-send : goal.returns-then-send
-returns-then-send g c =
+pub returns-then-must_send : goal.returns-then-must_send
+returns-then-must_send g c =
     let s = state_of g.F.Meaning g.T.Meaning c.args.self.now in
-    called s _ move sent [] (send s.session s.transport) (move_sends s (sym c.is_active.ensures ∙ c.if-not-is_active.false) (sym c.if-must_send.ensures)) (copies_nothing s.session s.transport) c.if-send.ensures
-
-pub returns-else-send : goal.returns-else-send
-returns-else-send g c =
-    let s = state_of g.F.Meaning g.T.Meaning c.args.self.now in
-    called s _ move waiting [] (send s.session s.transport) (move_sends s (sym c.is_active.ensures ∙ c.if-not-is_active.false) (sym c.if-must_send.ensures)) (copies_nothing s.session s.transport) c.if-send.ensures
+    let told : MatchResult c.send.result (λ u. c.map_or.result ≡ Sent) (λ e. c.map_or.result ≡ Waiting) = search rules in
+    let a = sending_answer move_answer Sent Waiting c.send.result c.map_or.result refl refl told in
+    called s _ move _ [] (send s.session s.transport) (move_sends s (sym c.is_active.ensures ∙ c.if-not-is_active.false) (sym c.if-must_send.ensures)) (copies_nothing s.session s.transport) (answering a c.send.ensures)
 
 pub returns-then-self : goal.returns-then-self
 returns-then-self g c =

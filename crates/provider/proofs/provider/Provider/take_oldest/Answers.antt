@@ -3,6 +3,7 @@ use Rattle.queue.specs.Answers.{number, first_answer, read_buffer}
 use Rattle.codec.specs.RecordReading.{one_record}
 use Rattle.histories.specs.Calls.{says, idle}
 use Rattle.histories.specs.Provider.{oldest}
+use Rattle.provider.specs.Answers.{opening_answer}
 use Rattle.provider.specs.Sessions.{settings_of, session_of}
 use Rattle.provider.specs.States.{state_of, queue_of}
 use Rattle.provider.proofs.Queues.{kept_queue}
@@ -55,11 +56,11 @@ returns-then-length-le-SHORT_RECORD g c =
     let p = c.args.self.now in
     let q = g.F.Meaning in
     let kept = kept_queue q c.first_length.new.self c.read_from.new.self c.read_from.ensures.kept ∙ kept_queue q p.frames c.first_length.new.self c.first_length.ensures.kept in
-    moves_from (settings_of p.session.settings) p.session.opening (session_of p.session) (queue_of g.T.Meaning p.transport) _ _ _ _ kept c.take_by.ensures
+    moves_from (settings_of p.session.settings) (opening_answer p.session.opening) (session_of p.session) (queue_of g.T.Meaning p.transport) _ _ _ _ kept c.take_by.ensures
 
 pub returns : goal.returns
 returns g c =
     let p = c.args.self.now in
     let q = g.F.Meaning in
     let kept = kept_queue q c.first_length.new.self c.read_from-2.new.self c.read_from-2.ensures.kept ∙ kept_queue q p.frames c.first_length.new.self c.first_length.ensures.kept in
-    moves_from (settings_of p.session.settings) p.session.opening (session_of p.session) (queue_of g.T.Meaning p.transport) _ _ _ _ kept c.take_by-2.ensures
+    moves_from (settings_of p.session.settings) (opening_answer p.session.opening) (session_of p.session) (queue_of g.T.Meaning p.transport) _ _ _ _ kept c.take_by-2.ensures
