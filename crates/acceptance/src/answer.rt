@@ -1,129 +1,136 @@
-ghost use Rattle.std.specs.Prelude.{◌≡◌, [], ◌++◌, length, IfOk, string_bytes, OnOk};
-ghost use Rattle.acceptance.specs.Lines.{refusal_line, opening_line, answer_line};
-ghost use Rattle.histories.specs.Calls.{collected};
-ghost use Rattle.provider.specs.Answers.{move_answer, tick_answer, performed_answer, reception_answer, refusal_answer};
+ghost use Rattle.std.specs.Prelude.{◌≡◌, [], ◌++◌, OnOk, Some};
+ghost use Rattle.acceptance.specs.Lines.{opening_line, answer_line};
+ghost use Rattle.provider.specs.Answers.{opening_answer, move_answer, tick_answer, performed_answer, refusal_answer};
 ghost use Rattle.replay.specs.Events.{answer_of, copied_of};
 
-use provider::answer::{InvocationRefusal, MoveAnswer, Performed, ReceptionRefusal, TickAnswer};
+use provider::answer::{InvocationRefusal, MoveAnswer, OpeningRefusal, Performed, TickAnswer};
 use replay::answer::Answer;
-use script::hexadecimal::push_octets;
+use script::hexadecimal::Hexadecimal;
 use script::output::say;
-use std::alloc::{AllocError, Global};
+use std::alloc::AllocError;
+use std::fmt;
 
-fn refusal_text(heap: Global, number: u8) -> Result<String, AllocError>
-    ensures { IfOk result (λ s. string_bytes s ≡ refusal_line number) }
-{
-    format!(in heap; "refused {number}\n")
-}
+// What a move did, printed as its line.
+#[derive(Clone, Copy)]
+struct MoveLine(MoveAnswer);
 
-fn move_text(answer: MoveAnswer) -> &'static str
-    ensures { result.now ≡ answer_line (move_answer answer) [] }
-{
-    match answer {
-        MoveAnswer::Idle => "idle\n",
-        MoveAnswer::Sent => "sent\n",
-        MoveAnswer::Waiting => "waiting\n",
-        MoveAnswer::Ended => "ended\n",
-        MoveAnswer::Moved => "moved\n",
-        MoveAnswer::PassedOver => "passed over\n",
-    }
-}
+impl fmt::Display for MoveLine {
+    ghost output = { λ l. Some (answer_line (move_answer l.0) []) };
 
-fn tick_text(answer: TickAnswer) -> &'static str
-    ensures { result.now ≡ answer_line (tick_answer answer) [] }
-{
-    match answer {
-        TickAnswer::Quiet => "quiet\n",
-        TickAnswer::Sent => "sent\n",
-        TickAnswer::Waiting => "waiting\n",
-    }
-}
-
-fn performed_text(heap: Global, performed: Performed) -> Result<String, AllocError>
-    ensures { IfOk result (λ s. string_bytes s ≡ answer_line (performed_answer performed) []) }
-{
-    match performed {
-        Performed::Started { id } => format!(in heap; "started {id}\n"),
-        Performed::Stopped { id } => format!(in heap; "stopped {id}\n"),
-        Performed::Bound { id, version } => format!(in heap; "bound {id} version {version}\n"),
-        Performed::Unbound { id } => format!(in heap; "unbound {id}\n"),
-        Performed::Aborted { lost } => format!(in heap; "aborted lost {lost}\n"),
-    }
-}
-
-fn invocation_refusal_text(heap: Global, refusal: InvocationRefusal) -> Result<String, AllocError>
-    ensures { IfOk result (λ s. string_bytes s ≡ answer_line (refusal_answer refusal) []) }
-{
-    match refusal {
-        InvocationRefusal::Undecodable { fault, lost } => {
-            let letter = fault.kind.letter();
-            let place = fault.place;
-            format!(in heap; "refused 20 {letter} {place} lost {lost}\n")
+    fn fmt<W: fmt::Write>(&self, f: &mut fmt::Formatter<W>) -> fmt::Result {
+        match self.0 {
+            MoveAnswer::Idle => writeln!(f, "idle"),
+            MoveAnswer::Sent => writeln!(f, "sent"),
+            MoveAnswer::Waiting => writeln!(f, "waiting"),
+            MoveAnswer::Ended => writeln!(f, "ended"),
+            MoveAnswer::Moved => writeln!(f, "moved"),
+            MoveAnswer::PassedOver => writeln!(f, "passed over"),
         }
-        InvocationRefusal::ProtocolError { lost } => format!(in heap; "refused 21 lost {lost}\n"),
-        other => refusal_text(heap, other.number()),
     }
 }
 
-// The line of a collected PDU: its length and its octets.
-fn say_collected(out: &mut Vec<u8>, heap: Global, octets: &[u8]) -> Result<(), AllocError>
-    ensures { OnOk result (out.new.items ≡ out.old.items ++ answer_line (collected (length octets.now)) octets.now) }
-{
-    let length = octets.len();
-    let text = format!(in heap; "collected {length} ")?;
-    say(out, text.as_str())?;
-    push_octets(out, octets)?;
-    say(out, "\n")
-}
+// What a tick did, printed as its line.
+#[derive(Clone, Copy)]
+struct TickLine(TickAnswer);
 
-fn say_refusal(out: &mut Vec<u8>, heap: Global, number: u8) -> Result<(), AllocError>
-    ensures { OnOk result (out.new.items ≡ out.old.items ++ refusal_line number) }
-{
-    let text = refusal_text(heap, number)?;
-    say(out, text.as_str())
-}
+impl fmt::Display for TickLine {
+    ghost output = { λ l. Some (answer_line (tick_answer l.0) []) };
 
-// The line of the opening, by its number.
-pub fn say_opening(out: &mut Vec<u8>, heap: Global, number: u8) -> Result<(), AllocError>
-    ensures { OnOk result (out.new.items ≡ out.old.items ++ opening_line number) }
-{
-    if number == 0 {
-        say(out, "opened\n")
-    } else {
-        say_refusal(out, heap, number)
+    fn fmt<W: fmt::Write>(&self, f: &mut fmt::Formatter<W>) -> fmt::Result {
+        match self.0 {
+            TickAnswer::Quiet => writeln!(f, "quiet"),
+            TickAnswer::Sent => writeln!(f, "sent"),
+            TickAnswer::Waiting => writeln!(f, "waiting"),
+        }
     }
 }
 
-fn say_reception(
-    out: &mut Vec<u8>,
-    heap: Global,
-    received: &Result<(), ReceptionRefusal>,
-) -> Result<(), AllocError>
-    ensures { OnOk result (out.new.items ≡ out.old.items ++ answer_line (reception_answer received.now) []) }
+// What an accepted invocation did, printed as its line.
+#[derive(Clone, Copy)]
+struct PerformedLine(Performed);
+
+impl fmt::Display for PerformedLine {
+    ghost output = { λ l. Some (answer_line (performed_answer l.0) []) };
+
+    fn fmt<W: fmt::Write>(&self, f: &mut fmt::Formatter<W>) -> fmt::Result {
+        match self.0 {
+            Performed::Started { id } => writeln!(f, "started {id}"),
+            Performed::Stopped { id } => writeln!(f, "stopped {id}"),
+            Performed::Bound { id, version } => writeln!(f, "bound {id} version {version}"),
+            Performed::Unbound { id } => writeln!(f, "unbound {id}"),
+            Performed::Aborted { lost } => writeln!(f, "aborted lost {lost}"),
+        }
+    }
+}
+
+// Why an invocation is refused, printed as its line.
+#[derive(Clone, Copy)]
+struct RefusalLine(InvocationRefusal);
+
+impl fmt::Display for RefusalLine {
+    ghost output = { λ l. Some (answer_line (refusal_answer l.0) []) };
+
+    fn fmt<W: fmt::Write>(&self, f: &mut fmt::Formatter<W>) -> fmt::Result {
+        match self.0 {
+            InvocationRefusal::Undecodable { fault, lost } => {
+                writeln!(f, "refused 20 {fault} lost {lost}")
+            }
+            InvocationRefusal::ProtocolError { lost } => writeln!(f, "refused 21 lost {lost}"),
+            other => {
+                let number = other.number();
+                writeln!(f, "refused {number}")
+            }
+        }
+    }
+}
+
+// An answer, printed as its line.
+#[derive(Clone, Copy)]
+struct AnswerLine<'a>(&'a Answer);
+
+impl fmt::Display for AnswerLine<'_> {
+    ghost output = { λ l. Some (answer_line (answer_of l.0.now) (copied_of l.0.now)) };
+
+    fn fmt<W: fmt::Write>(&self, f: &mut fmt::Formatter<W>) -> fmt::Result {
+        match self.0 {
+            Answer::Received(Ok(())) => writeln!(f, "accepted"),
+            Answer::Received(Err(refusal)) => {
+                let number = refusal.number();
+                writeln!(f, "refused {number}")
+            }
+            Answer::Moved(answer) => write!(f, "{}", MoveLine(*answer)),
+            Answer::Ticked(answer) => write!(f, "{}", TickLine(*answer)),
+            Answer::Collected(Ok(octets)) => {
+                let length = octets.len();
+                let octets = Hexadecimal(octets.as_slice());
+                writeln!(f, "collected {length} {octets}")
+            }
+            Answer::Collected(Err(refusal)) => {
+                let number = refusal.number();
+                writeln!(f, "refused {number}")
+            }
+            Answer::Invoked(Ok(performed)) => write!(f, "{}", PerformedLine(*performed)),
+            Answer::Invoked(Err(refusal)) => write!(f, "{}", RefusalLine(*refusal)),
+        }
+    }
+}
+
+// The line of the opening.
+pub fn say_opening(out: &mut Vec<u8>, opening: Result<(), OpeningRefusal>) -> Result<(), AllocError>
+    ensures { OnOk result (out.new.items ≡ out.old.items ++ opening_line (opening_answer opening)) }
 {
-    match received {
-        Err(refusal) => say_refusal(out, heap, refusal.number()),
-        Ok(()) => say(out, "accepted\n"),
+    match opening {
+        Ok(()) => say(out, "opened\n"),
+        Err(refusal) => {
+            let number = refusal.number();
+            say(out, format_args!("refused {number}\n"))
+        }
     }
 }
 
 // The line of an answer.
-pub fn say_answer(out: &mut Vec<u8>, heap: Global, answer: &Answer) -> Result<(), AllocError>
+pub fn say_answer(out: &mut Vec<u8>, answer: &Answer) -> Result<(), AllocError>
     ensures { OnOk result (out.new.items ≡ out.old.items ++ answer_line (answer_of answer.now) (copied_of answer.now)) }
 {
-    match answer {
-        Answer::Received(received) => say_reception(out, heap, received),
-        Answer::Moved(answer) => say(out, move_text(*answer)),
-        Answer::Ticked(answer) => say(out, tick_text(*answer)),
-        Answer::Collected(Ok(octets)) => say_collected(out, heap, octets.as_slice()),
-        Answer::Collected(Err(refusal)) => say_refusal(out, heap, refusal.number()),
-        Answer::Invoked(Ok(performed)) => {
-            let text = performed_text(heap, *performed)?;
-            say(out, text.as_str())
-        },
-        Answer::Invoked(Err(refusal)) => {
-            let text = invocation_refusal_text(heap, *refusal)?;
-            say(out, text.as_str())
-        }
-    }
+    say(out, AnswerLine(answer))
 }

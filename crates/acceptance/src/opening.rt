@@ -1,16 +1,13 @@
 ghost use Rattle.std.specs.Prelude.{◌≡◌};
-ghost use Rattle.acceptance.specs.Calls.{opening_said, opening_asked};
+ghost use Rattle.acceptance.specs.Calls.{opening_said};
+ghost use Rattle.provider.specs.Opening.{opening_asked};
 
-use crate::call::MOST_OF_32_BITS;
 use piles::shape::{PileShape, take_pile};
-use replay::call::Opening;
-use script::arguments::{take_end, take_number, take_octets, unknown_word};
+use provider::settings::Opening;
 use script::calls::CallLine;
 use script::complaint::Complaint;
-use script::words::Words;
-use std::alloc::Global;
 
-// What a script's first line opens a provider with.
+// What a script's first line opens a provider with: an `Opening` whose identifier is its own, and two piles.
 #[derive(Drop)]
 pub struct ScriptOpening {
     pub frames: PileShape,
@@ -35,29 +32,24 @@ impl ScriptOpening {
     }
 }
 
-fn take_arguments(words: &mut Words, heap: Global) -> Result<ScriptOpening, Complaint> {
-    let frames = take_pile(words, heap)?;
-    let transport = take_pile(words, heap)?;
-    let buffer_size = take_number(words, heap, "N of open", MOST_OF_32_BITS)? as u32;
-    let latency_limit = take_number(words, heap, "L of open", MOST_OF_32_BITS)? as u32;
-    let version = take_number(words, heap, "VERSION of open", MOST_OF_32_BITS)? as u32;
-    let identifier = take_octets(words, heap, "IDENTIFIER of open")?;
-    take_end(words, heap)?;
-    Ok(ScriptOpening {
-        frames,
-        transport,
-        buffer_size,
-        latency_limit,
-        version,
-        identifier,
-    })
-}
-
 // The opening that a script's first call says.
-pub fn take_opening(line: CallLine, heap: Global) -> Result<ScriptOpening, Complaint> {
-    let mut line = line;
-    match line.word {
-        b"open" => take_arguments(&mut line.words, heap),
-        other => Err(unknown_word(other, heap, "open, before all calls")),
+pub fn take_opening(line: CallLine) -> Result<ScriptOpening, Complaint> {
+    let CallLine {
+        word,
+        mut arguments,
+        ..
+    } = line;
+    if word != b"open".as_slice() {
+        return Err(arguments.unknown(word, "open, before all calls"));
     }
+    let opening = ScriptOpening {
+        frames: take_pile(&mut arguments)?,
+        transport: take_pile(&mut arguments)?,
+        buffer_size: arguments.number("N of open")?,
+        latency_limit: arguments.number("L of open")?,
+        version: arguments.number("VERSION of open")?,
+        identifier: arguments.octets("IDENTIFIER of open")?,
+    };
+    arguments.end()?;
+    Ok(opening)
 }

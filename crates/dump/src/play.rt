@@ -1,54 +1,40 @@
 use crate::invocations::say_invocation;
 use crate::records::say_pdu;
-use script::arguments::{take_end, take_octets, unknown_word};
-use script::calls::CallLine;
+use script::calls::{CallLine, CallLines};
 use script::complaint::{Complaint, FaultyLine};
-use script::lines::Lines;
-use std::alloc::{AllocError, Global};
+use script::played::Played;
+use std::alloc::Global;
 
-// The answers to a script, and the line at which it stopped, if any.
-#[derive(Drop)]
-pub struct Played {
-    pub answers: Vec<u8>,
-    pub fault: Option<FaultyLine>,
-}
-
-fn play_line(line: CallLine, heap: Global, answers: &mut Vec<u8>) -> Result<(), Complaint> {
-    let mut line = line;
+fn play_line(line: CallLine, answers: &mut Vec<u8>) -> Result<(), Complaint> {
+    let mut arguments = line.arguments;
     match line.word {
         b"pdu" => {
-            let pdu = take_octets(&mut line.words, heap, "OCTETS of pdu")?;
-            take_end(&mut line.words, heap)?;
-            say_pdu(answers, heap, pdu.as_slice())?;
+            let pdu = arguments.octets("OCTETS of pdu")?;
+            arguments.end()?;
+            say_pdu(answers, pdu.as_slice())?;
         }
         b"invocation" => {
-            let octets = take_octets(&mut line.words, heap, "OCTETS of invocation")?;
-            take_end(&mut line.words, heap)?;
-            say_invocation(answers, heap, octets.as_slice())?;
+            let octets = arguments.octets("OCTETS of invocation")?;
+            arguments.end()?;
+            say_invocation(answers, octets.as_slice())?;
         }
-        other => return Err(unknown_word(other, heap, "pdu or invocation")),
+        other => return Err(arguments.unknown(other, "pdu or invocation")),
     }
     Ok(())
 }
 
 // Answers each line of a script, up to the first that is faulty.
-pub fn play(text: &[u8], heap: Global) -> Result<Played, AllocError> {
-    let mut lines = Lines::new(text);
-    let mut answers = Vec::new(heap);
-    for _ in 0..text.len() {
-        let Some(line) = lines.next_call() else {
-            break;
-        };
+fn play_lines(text: &[u8], heap: Global, answers: &mut Vec<u8>) -> Result<(), FaultyLine> {
+    for line in CallLines::new(text, heap) {
         let number = line.number;
-        if let Err(complaint) = play_line(line, heap, &mut answers) {
-            return Ok(Played {
-                answers,
-                fault: Some(FaultyLine { number, complaint }),
-            });
-        }
+        play_line(line, answers).map_err(|complaint| FaultyLine { number, complaint })?;
     }
-    Ok(Played {
-        answers,
-        fault: None,
-    })
+    Ok(())
+}
+
+// The answers to a script, and its first faulty line, if any.
+pub fn play(text: &[u8], heap: Global) -> Played {
+    let mut answers = Vec::new(heap);
+    let fault = play_lines(text, heap, &mut answers).err();
+    Played { answers, fault }
 }

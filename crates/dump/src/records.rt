@@ -1,7 +1,6 @@
-ghost use Rattle.std.specs.Prelude.{◌≡◌, ◌++◌, IfOk, string_bytes, OnOk};
+ghost use Rattle.std.specs.Prelude.{◌≡◌, ◌++◌, OnOk, Some};
 ghost use Rattle.codec.specs.Times.{stamp};
-ghost use Rattle.codec.specs.RecordReading.{content_of, content_or, record_at, said};
-ghost use Rattle.codec.specs.Records.{notified};
+ghost use Rattle.codec.specs.RecordReading.{content_or, record_at, said};
 ghost use Rattle.dump.specs.Lines.{fault_line, time_text, status_text, content_text, part_line, pdu_lines};
 
 use codec::fault::Fault;
@@ -10,99 +9,109 @@ use codec::record::{
 };
 use codec::time::Time;
 use script::output::say;
-use std::alloc::{AllocError, Global};
+use std::alloc::AllocError;
+use std::fmt;
 
-// The line of a fault.
-pub fn say_fault(out: &mut Vec<u8>, heap: Global, fault: Fault) -> Result<(), AllocError>
-    ensures { OnOk result (out.new.items ≡ out.old.items ++ fault_line fault) }
-{
-    let letter = fault.kind.letter();
-    let place = fault.place;
-    let text = format!(in heap; "fault {letter} {place}\n")?;
-    say(out, text.as_str())
-}
+// A fault, printed as its line.
+#[derive(Clone, Copy)]
+pub struct FaultLine(pub Fault);
 
-// The three numbers of a time.
-pub fn time_text(heap: Global, time: &Time) -> Result<String, AllocError>
-    ensures { IfOk result (λ s. string_bytes s ≡ time_text (stamp time.now)) }
-{
-    let day = time.day();
-    let millisecond = time.millisecond();
-    let microsecond = time.microsecond();
-    format!(in heap; "{day} {millisecond} {microsecond}")
-}
+impl fmt::Display for FaultLine {
+    ghost output = { λ l. Some (fault_line l.0) };
 
-fn status_text(status: ProductionStatus) -> &'static str
-    ensures { result.now ≡ status_text status }
-{
-    match status {
-        ProductionStatus::Running => "running",
-        ProductionStatus::Interrupted => "interrupted",
-        ProductionStatus::Halted => "halted",
+    fn fmt<W: fmt::Write>(&self, f: &mut fmt::Formatter<W>) -> fmt::Result {
+        let fault = self.0;
+        writeln!(f, "fault {fault}")
     }
 }
 
-fn notification_text(heap: Global, notification: Notification) -> Result<String, AllocError>
-    ensures { IfOk result (λ s. string_bytes s ≡ content_text (content_of (notified notification))) }
-{
-    match notification {
-        Notification::LossOfFrameSynchronization(time) => {
-            let time = time_text(heap, &time)?;
-            format!(in heap; "loss of frame synchronization time {time}")
-        }
-        Notification::ProductionStatusChange(status) => {
-            let status = status_text(status);
-            format!(in heap; "production status {status}")
-        }
-        Notification::EndOfData => format!(in heap; "end of data"),
+// A time, printed as its three numbers.
+#[derive(Clone, Copy)]
+pub struct TimeText(pub Time);
+
+impl fmt::Display for TimeText {
+    ghost output = { λ t. Some (time_text (stamp t.0)) };
+
+    fn fmt<W: fmt::Write>(&self, f: &mut fmt::Formatter<W>) -> fmt::Result {
+        let day = self.0.day();
+        let millisecond = self.0.millisecond();
+        let microsecond = self.0.microsecond();
+        write!(f, "{day} {millisecond} {microsecond}")
     }
 }
 
-fn content_text(heap: Global, content: RecordContent) -> Result<String, AllocError>
-    ensures { IfOk result (λ s. string_bytes s ≡ content_text (said content)) }
-{
-    match content {
-        RecordContent::Frame {
-            quality,
-            time,
-            data_length,
-        } => {
-            let quality = quality.octet();
-            let time = time_text(heap, &time)?;
-            format!(in heap; "frame quality {quality} time {time} data {data_length}")
+// A production status, printed in words.
+#[derive(Clone, Copy)]
+struct StatusText(ProductionStatus);
+
+impl fmt::Display for StatusText {
+    ghost output = { λ s. Some (status_text s.0) };
+
+    fn fmt<W: fmt::Write>(&self, f: &mut fmt::Formatter<W>) -> fmt::Result {
+        match self.0 {
+            ProductionStatus::Running => write!(f, "running"),
+            ProductionStatus::Interrupted => write!(f, "interrupted"),
+            ProductionStatus::Halted => write!(f, "halted"),
         }
-        RecordContent::Notification(notification) => notification_text(heap, notification),
+    }
+}
+
+// What a record says, printed without its place.
+#[derive(Clone, Copy)]
+struct ContentText(RecordContent);
+
+impl fmt::Display for ContentText {
+    ghost output = { λ c. Some (content_text (said c.0)) };
+
+    fn fmt<W: fmt::Write>(&self, f: &mut fmt::Formatter<W>) -> fmt::Result {
+        match self.0 {
+            RecordContent::Frame {
+                quality,
+                time,
+                data_length,
+            } => {
+                let quality = u8::from(quality);
+                let time = TimeText(time);
+                write!(f, "frame quality {quality} time {time} data {data_length}")
+            }
+            RecordContent::Notification(Notification::LossOfFrameSynchronization(time)) => {
+                let time = TimeText(time);
+                write!(f, "loss of frame synchronization time {time}")
+            }
+            RecordContent::Notification(Notification::ProductionStatusChange(status)) => {
+                let status = StatusText(status);
+                write!(f, "production status {status}")
+            }
+            RecordContent::Notification(Notification::EndOfData) => write!(f, "end of data"),
+        }
     }
 }
 
 // The line of a record: its place and what it says.
-fn say_record(out: &mut Vec<u8>, heap: Global, part: RecordPart) -> Result<(), AllocError>
+fn say_record(out: &mut Vec<u8>, part: RecordPart) -> Result<(), AllocError>
     ensures { OnOk result (out.new.items ≡ out.old.items ++ part_line part.entry.place (content_or (record_at part.entry.octets.now 0))) }
 {
     match record_content(part.octets) {
         Ok(content) => {
             let place = part.place;
-            let text = content_text(heap, content)?;
-            let line = format!(in heap; "{place} {text}\n")?;
-            say(out, line.as_str())
+            let text = ContentText(content);
+            say(out, format_args!("{place} {text}\n"))
         }
-        Err(fault) => say_fault(out, heap, fault),
+        Err(fault) => say(out, FaultLine(fault)),
     }
 }
 
 // A line for each record of a PDU, and then its end or its fault.
-pub fn say_pdu(out: &mut Vec<u8>, heap: Global, pdu: &[u8]) -> Result<(), AllocError>
+pub fn say_pdu(out: &mut Vec<u8>, pdu: &[u8]) -> Result<(), AllocError>
     ensures { OnOk result (out.new.items ≡ out.old.items ++ pdu_lines pdu.now) }
 {
     let mut reader = RecordReader::new(pdu);
+    // A loop, since an iterator over the reader would not end: after a fault the reader stays where it is.
     loop {
-        let next = match reader.next() {
-            Ok(next) => next,
-            Err(fault) => return say_fault(out, heap, fault),
-        };
-        match next {
-            Some(part) => say_record(out, heap, part)?,
-            None => return say(out, "end\n"),
+        match reader.next() {
+            Ok(Some(part)) => say_record(out, part)?,
+            Ok(None) => return say(out, "end\n"),
+            Err(fault) => return say(out, FaultLine(fault)),
         }
     }
 }

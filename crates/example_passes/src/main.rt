@@ -2,19 +2,18 @@
 // played, and NAME.answers has its answers and, behind them, what is said of a faulty line.
 #![tactic(auto)]
 
-use acceptance::play::{Played, play};
+use acceptance::play::play;
 use anyhow::anyhow;
 use replay::watcher::Unwatched;
 use script::output::say;
+use script::played::Played;
 use std::{env, fs};
 
 // What a script is answered, and what is said of its faulty line, if any.
 fn answers_of(rt: &HostRuntime, text: &[u8]) -> anyhow::Result<Vec<u8>> {
-    let heap = rt.alloc();
-    let Played { mut answers, fault } = play(text, heap, Unwatched {})?;
+    let Played { mut answers, fault } = play(text, rt.alloc(), Unwatched {})?;
     if let Some(fault) = fault {
-        let message = format!(in heap; "{fault}\n")?;
-        say(&mut answers, message.as_str())?;
+        say(&mut answers, format_args!("{fault}\n"))?;
     }
     Ok(answers)
 }
@@ -35,10 +34,8 @@ fn play_example(rt: &HostRuntime, name: &str) -> anyhow::Result<()> {
 }
 
 fn main(rt: HostRuntime) -> anyhow::Result<()> {
-    for (place, name) in env::args(&rt)?.enumerate() {
-        if place > 0 {
-            play_example(&rt, name.as_str())?;
-        }
+    for name in env::args(&rt)?.skip(1) {
+        play_example(&rt, &name)?;
     }
     Ok(())
 }

@@ -13,20 +13,10 @@ pub struct Progress {
     lines: usize,
 }
 
-fn lines_of(text: &[u8]) -> usize {
-    let mut lines = 0usize;
-    for octet in text {
-        if *octet == 10 {
-            lines = lines.saturating_add(1);
-        }
-    }
-    lines
-}
-
 impl Progress {
     // Progress is shown if the script is long and standard error is a terminal.
     pub fn of_script(rt: &HostRuntime, text: &[u8]) -> io::Result<Progress> {
-        let lines = lines_of(text);
+        let lines = text.iter().filter(|octet| **octet == b'\n').count();
         Ok(Progress {
             rt: rt.clone()?,
             shown: lines >= LONG && rt.stderr().is_terminal(),

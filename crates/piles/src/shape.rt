@@ -1,148 +1,125 @@
-use script::arguments::{missing_word, take_number, take_word, unknown_word};
+ghost use Rattle.std.specs.Prelude.{◌<◌, OnOk};
+ghost use Rattle.script.specs.Arguments.{octets_left};
+
+use crate::pair::Pair;
+use script::arguments::Arguments;
 use script::complaint::Complaint;
-use script::words::Words;
-use std::alloc::Global;
 
 // The sizes of a slot queue and a packed queue, of which one is hollow: over no octets it holds nothing and has no
-// room, so that a tandem of the two is the other one. A limit of 4,294,967,295 records is none.
-#[derive(Clone, Copy)]
+// room, so that a tandem of the two is the other one.
+#[derive(Clone, Copy, Default)]
 pub struct BottomShape {
-    pub limit: u32,
+    pub limit: Option<u32>,
     pub slot_octets: usize,
     pub slot_width: usize,
     pub slot_notes: usize,
     pub packed_octets: usize,
 }
 
-// A tandem of two bottoms, of which the far one is hollow where the script names only one.
-#[derive(Clone, Copy)]
-pub struct HalfShape {
-    pub limit: u32,
-    pub near: BottomShape,
-    pub far: BottomShape,
-}
-
-// A tandem of two halves, of which the far one is hollow where the script names only one.
-#[derive(Clone, Copy)]
-pub struct PileShape {
-    pub limit: u32,
-    pub near: HalfShape,
-    pub far: HalfShape,
-}
-
-const NO_LIMIT: u32 = u32::MAX;
-
-impl BottomShape {
-    fn hollow() -> BottomShape {
-        BottomShape {
-            limit: NO_LIMIT,
-            slot_octets: 0,
-            slot_width: 0,
-            slot_notes: 0,
-            packed_octets: 0,
-        }
-    }
-
-    fn half(self) -> HalfShape {
-        HalfShape {
-            limit: NO_LIMIT,
-            near: self,
-            far: BottomShape::hollow(),
-        }
-    }
-}
-
-impl HalfShape {
-    fn pile(self) -> PileShape {
-        PileShape {
-            limit: NO_LIMIT,
-            near: self,
-            far: BottomShape::hollow().half(),
-        }
-    }
-}
+// A tandem of two halves, each a tandem of two bottoms.
+pub type PileShape = Pair<Pair<BottomShape>>;
 
 // What a queue's words begin with: quotas, of which the least counts, and then a bottom or a tandem.
 enum Head {
     Bottom(BottomShape),
-    Tandem(u32),
+    Tandem(Option<u32>),
 }
 
-fn take_slot(words: &mut Words, heap: Global, limit: u32) -> Result<BottomShape, Complaint> {
-    let slot_octets = take_number(words, heap, "OCTETS of slot", u64::MAX)? as usize;
-    let slot_width = take_number(words, heap, "WIDTH of slot", u64::MAX)? as usize;
-    let slot_notes = take_number(words, heap, "NOTES of slot", u64::MAX)? as usize;
+fn take_slot(arguments: &mut Arguments) -> Result<BottomShape, Complaint> {
     Ok(BottomShape {
-        limit,
-        slot_octets,
-        slot_width,
-        slot_notes,
-        packed_octets: 0,
+        slot_octets: arguments.number("OCTETS of slot")?,
+        slot_width: arguments.number("WIDTH of slot")?,
+        slot_notes: arguments.number("NOTES of slot")?,
+        ..BottomShape::default()
     })
 }
 
-fn take_packed(words: &mut Words, heap: Global, limit: u32) -> Result<BottomShape, Complaint> {
-    let packed_octets = take_number(words, heap, "OCTETS of packed", u64::MAX)? as usize;
+fn take_packed(arguments: &mut Arguments) -> Result<BottomShape, Complaint> {
     Ok(BottomShape {
-        limit,
-        slot_octets: 0,
-        slot_width: 0,
-        slot_notes: 0,
-        packed_octets,
+        packed_octets: arguments.number("OCTETS of packed")?,
+        ..BottomShape::default()
     })
 }
 
-// A quota over a quota lets in what the lesser of the two lets in.
-fn take_head(words: &mut Words, heap: Global) -> Result<Head, Complaint> {
-    let mut limit = NO_LIMIT;
-    for _ in 0..words.left() {
-        let word = take_word(words, heap, "a queue")?;
-        match word {
-            b"quota" => limit = limit.min(take_quota(words, heap)?),
-            b"slot" => return Ok(Head::Bottom(take_slot(words, heap, limit)?)),
-            b"packed" => return Ok(Head::Bottom(take_packed(words, heap, limit)?)),
+// The limit of a quota over what has this limit, if any: a quota of 0 is taken as 1, and a quota over a quota lets in what
+// the lesser of the two lets in.
+fn take_quota(arguments: &mut Arguments, limit: Option<u32>) -> Result<u32, Complaint>
+    ensures { OnOk result (octets_left arguments.new < octets_left arguments.old) }
+{
+    let quota = arguments.number::<u32>("Q of quota")?.max(1);
+    Ok(limit.map_or(quota, |least| least.min(quota)))
+}
+
+fn take_head(arguments: &mut Arguments) -> Result<Head, Complaint> {
+    let mut limit = None;
+    // It ends, since each word that is read leaves fewer octets of the line.
+    loop {
+        match arguments.word("a queue")? {
+            b"quota" => limit = Some(take_quota(arguments, limit)?),
+            b"slot" => {
+                return Ok(Head::Bottom(BottomShape {
+                    limit,
+                    ..take_slot(arguments)?
+                }));
+            }
+            b"packed" => {
+                return Ok(Head::Bottom(BottomShape {
+                    limit,
+                    ..take_packed(arguments)?
+                }));
+            }
             b"tandem" => return Ok(Head::Tandem(limit)),
-            other => return Err(unknown_word(other, heap, "slot, packed, quota or tandem")),
+            other => return Err(arguments.unknown(other, "slot, packed, quota or tandem")),
         }
     }
-    Err(missing_word(heap, "a queue"))
 }
 
-// A quota of 0 is taken as 1.
-fn take_quota(words: &mut Words, heap: Global) -> Result<u32, Complaint> {
-    let limit = take_number(words, heap, "Q of quota", 4294967295)? as u32;
-    Ok(limit.max(1))
+// A shape that the words of a script describe, to the depth of tandems that it has room for.
+trait Described: Sized {
+    // The shape of which this bottom is all that is not hollow.
+    fn of_bottom(bottom: BottomShape) -> Self;
+
+    // The shape that the next words describe.
+    fn take(arguments: &mut Arguments) -> Result<Self, Complaint>;
 }
 
-fn take_bottom(words: &mut Words, heap: Global) -> Result<BottomShape, Complaint> {
-    match take_head(words, heap)? {
-        Head::Bottom(bottom) => Ok(bottom),
-        Head::Tandem(_) => Err(Complaint::Says(String::from_str(
-            heap,
-            "tandems nest at most two deep here, and this one would be the third",
-        )?)),
+impl Described for BottomShape {
+    fn of_bottom(bottom: BottomShape) -> BottomShape {
+        bottom
+    }
+
+    fn take(arguments: &mut Arguments) -> Result<BottomShape, Complaint> {
+        match take_head(arguments)? {
+            Head::Bottom(bottom) => Ok(bottom),
+            Head::Tandem(_) => Err(arguments.complaint(
+                "tandems nest at most two deep here, and this one would be the third",
+            )),
+        }
     }
 }
 
-fn take_half(words: &mut Words, heap: Global) -> Result<HalfShape, Complaint> {
-    match take_head(words, heap)? {
-        Head::Bottom(bottom) => Ok(bottom.half()),
-        Head::Tandem(limit) => {
-            let near = take_bottom(words, heap)?;
-            let far = take_bottom(words, heap)?;
-            Ok(HalfShape { limit, near, far })
+impl<S: Described + Drop> Described for Pair<S> {
+    fn of_bottom(bottom: BottomShape) -> Pair<S> {
+        Pair {
+            limit: None,
+            near: S::of_bottom(bottom),
+            far: S::of_bottom(BottomShape::default()),
+        }
+    }
+
+    fn take(arguments: &mut Arguments) -> Result<Pair<S>, Complaint> {
+        match take_head(arguments)? {
+            Head::Bottom(bottom) => Ok(Pair::of_bottom(bottom)),
+            Head::Tandem(limit) => Ok(Pair {
+                limit,
+                near: S::take(arguments)?,
+                far: S::take(arguments)?,
+            }),
         }
     }
 }
 
 // The queue that the next words describe: slot, packed, quota over a queue, or tandem of two queues.
-pub fn take_pile(words: &mut Words, heap: Global) -> Result<PileShape, Complaint> {
-    match take_head(words, heap)? {
-        Head::Bottom(bottom) => Ok(bottom.half().pile()),
-        Head::Tandem(limit) => {
-            let near = take_half(words, heap)?;
-            let far = take_half(words, heap)?;
-            Ok(PileShape { limit, near, far })
-        }
-    }
+pub fn take_pile(arguments: &mut Arguments) -> Result<PileShape, Complaint> {
+    PileShape::take(arguments)
 }

@@ -1,9 +1,8 @@
 // Plays a script of calls on one queue, and answers each.
 #![tactic(auto)]
 
-use play::{Played, play};
-use std::io;
-use std::io::{Read, Write};
+use play::play;
+use std::io::Read;
 use std::process::ExitCode;
 
 mod answer;
@@ -12,21 +11,8 @@ mod play;
 #[cfg(test)]
 mod tests;
 
-fn run(rt: &HostRuntime) -> anyhow::Result<ExitCode> {
-    let heap = rt.alloc();
-    let mut text = Vec::new(heap);
-    rt.stdin().read_to_end(&mut text)?;
-    let Played { answers, fault } = play(text.as_slice(), heap)?;
-    rt.stdout().write_all(answers.as_slice())?;
-    match fault {
-        None => Ok(ExitCode::SUCCESS),
-        Some(fault) => {
-            rt.eprintln(fault)?;
-            Ok(ExitCode::FAILURE)
-        }
-    }
-}
-
 fn main(rt: HostRuntime) -> anyhow::Result<ExitCode> {
-    run(&rt)
+    let mut text = Vec::new(rt.alloc());
+    rt.stdin().read_to_end(&mut text)?;
+    Ok(play(&text, rt.alloc())?.tell(&rt)?)
 }

@@ -1,76 +1,54 @@
 use crate::answer::{say_answer, say_held};
 use crate::call::take_call;
-use packed::packed::Packed;
-use piles::memory::PileMemory;
-use piles::nesting::play_on_pile;
-use piles::player::Player;
+use piles::memory::Sizes;
 use piles::shape::{PileShape, take_pile};
 use queue::interface::Queue;
-use script::arguments::{missing_word, take_end, unknown_word};
-use script::calls::CallLine;
+use script::calls::{CallLine, CallLines};
 use script::complaint::{Complaint, FaultyLine};
-use script::lines::Lines;
 use script::output::say;
+use script::played::Played;
 use std::alloc::{AllocError, Global};
-
-// The answers to a script, and the line at which it stopped, if any.
-#[derive(Drop)]
-pub struct Played {
-    pub answers: Vec<u8>,
-    pub fault: Option<FaultyLine>,
-}
-
-// Plays on a queue the calls of a script that are left.
-#[derive(Drop)]
-struct QueuePlayer<'t> {
-    lines: Lines<'t>,
-    heap: Global,
-    played: Played,
-}
 
 fn play_line<Q: Queue>(
     line: CallLine,
     queue: &mut Q,
-    heap: Global,
     answers: &mut Vec<u8>,
 ) -> Result<(), Complaint> {
-    let mut line = line;
-    let call = take_call(line.word, &mut line.words, heap)?;
-    say_answer(answers, heap, queue, &call)?;
-    say(answers, "\n")?;
+    let call = take_call(line)?;
+    say_answer(answers, queue, &call)?;
     Ok(())
 }
 
-impl<'t> Player for QueuePlayer<'t> {
-    fn play<B: Queue, Q: Queue>(
-        &mut self,
-        _beside: &mut B,
-        queue: &mut Q,
-    ) -> Result<(), AllocError> {
-        for _ in 0..self.lines.left() {
-            let Some(line) = self.lines.next_call() else {
-                break;
-            };
-            let number = line.number;
-            if let Err(complaint) = play_line(line, queue, self.heap, &mut self.played.answers) {
-                self.played.fault = Some(FaultyLine { number, complaint });
-                return Ok(());
-            }
+// Plays on a queue the calls of a script that are left, and answers each; tells of the line at which it stopped, if any.
+fn play_lines<Q: Queue>(
+    lines: CallLines,
+    queue: &mut Q,
+    answers: &mut Vec<u8>,
+) -> Result<Option<FaultyLine>, AllocError> {
+    for line in lines {
+        let number = line.number;
+        if let Err(complaint) = play_line(line, queue, answers) {
+            return Ok(Some(FaultyLine { number, complaint }));
         }
-        say_held(&mut self.played.answers, self.heap, queue)
     }
+    say_held(answers, queue)?;
+    Ok(None)
 }
 
 // The queue that a script's first call describes.
-fn take_queue(line: CallLine, heap: Global) -> Result<PileShape, Complaint> {
-    let mut line = line;
-    match line.word {
+fn take_queue(line: CallLine) -> Result<PileShape, Complaint> {
+    let CallLine {
+        word,
+        mut arguments,
+        ..
+    } = line;
+    match word {
         b"queue" => {
-            let shape = take_pile(&mut line.words, heap)?;
-            take_end(&mut line.words, heap)?;
+            let shape = take_pile(&mut arguments)?;
+            arguments.end()?;
             Ok(shape)
         }
-        other => Err(unknown_word(other, heap, "queue, before all calls")),
+        other => Err(arguments.unknown(other, "queue, before all calls")),
     }
 }
 
@@ -83,31 +61,22 @@ fn stopped(number: u64, complaint: Complaint, heap: Global) -> Played {
 
 // Plays a script on the queue that its first call describes.
 pub fn play(text: &[u8], heap: Global) -> Result<Played, AllocError> {
-    let mut lines = Lines::new(text);
-    let Some(line) = lines.next_call() else {
-        return Ok(stopped(1, missing_word(heap, "`queue`, the first call,"), heap));
+    let mut lines = CallLines::new(text, heap);
+    let Some(line) = lines.next() else {
+        let complaint = Complaint::missing(heap, "`queue`, the first call,");
+        return Ok(stopped(1, complaint, heap));
     };
     let number = line.number;
-    let shape = match take_queue(line, heap) {
+    // A `match`, since what has been answered is given back also where a line is faulty.
+    let shape = match take_queue(line) {
         Ok(shape) => shape,
         Err(complaint) => return Ok(stopped(number, complaint, heap)),
     };
-    let mut memory = match PileMemory::new(&shape, heap) {
-        Ok(memory) => memory,
-        Err(_) => return Ok(stopped(number, Complaint::NoMemory, heap)),
+    let Ok(mut memory) = shape.memory(heap) else {
+        return Ok(stopped(number, Complaint::NoMemory, heap));
     };
     let mut answers = Vec::new(heap);
     say(&mut answers, "ready\n")?;
-    let mut player = QueuePlayer {
-        lines,
-        heap,
-        played: Played {
-            answers,
-            fault: None,
-        },
-    };
-    let mut nothing = [0; 0];
-    let mut hollow = Packed::new(&mut nothing);
-    play_on_pile(&mut hollow, &mut memory, &mut player)?;
-    Ok(player.played)
+    let fault = play_lines(lines, &mut memory.queue(), &mut answers)?;
+    Ok(Played { answers, fault })
 }

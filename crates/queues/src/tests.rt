@@ -1,5 +1,6 @@
 // Scripts with a faulty line: what is answered before it, and what is said of it.
-use crate::play::{Played, play};
+use crate::play::play;
+use script::played::Played;
 use std::test::Fail;
 
 #[derive(Clone, Copy)]

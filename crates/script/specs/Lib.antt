@@ -2,3 +2,5 @@ pub mod Text
 pub mod Lines
 pub mod Numbers
 pub mod Hexadecimal
+pub mod Complaints
+pub mod Arguments

@@ -1,17 +1,20 @@
 -- A text cut into lines.
-use Rattle.std.specs.Prelude.{◌≡◌, ℕ, ◌+◌, min, List, [], ◌∷◌, take, drop, Some, None, Option}
+use Rattle.std.specs.Prelude.{◌≡◌, ℕ, ◌+◌, Bool, min, List, [], ◌∷◌, Some, None, Option, ◌==◌}
+use Rattle.std.specs.List.{before_first, after_first}
 use Rattle.script.specs.declared.lines.Line.{Line}
-use Rattle.script.specs.declared.run.Class.TheVariants.{Line as in_line}
-use Rattle.script.specs.Text.{run_length}
+
+-- A line ends before the octet 10.
+abbrev pub ends_line : ℕ → Bool
+ends_line o = o == 10
 
 -- The first line, without its end.
 abbrev pub first_line : List ℕ → Option (List ℕ)
 first_line [] = None
-first_line (o ∷ os) = Some (take (run_length in_line (o ∷ os)) (o ∷ os))
+first_line (o ∷ os) = Some (before_first ends_line (o ∷ os))
 
 -- What stands behind the first line and its end.
 abbrev pub after_line : List ℕ → List ℕ
-after_line os = drop (run_length in_line os + 1) os
+after_line os = after_first ends_line os
 
 abbrev pub line_text : Option Line → Option (List ℕ)
 line_text (Some l) = Some l.text.now

@@ -1,9 +1,9 @@
 -- Decimal numbers.
-use Rattle.std.specs.Prelude.{ℕ, ◌+◌, ◌-◌, ◌*◌, cond, List, [], ◌∷◌, length, Ok, Err, Result, nat_le}
-use Rattle.script.specs.declared.run.Class.TheVariants.{Digit}
+use Rattle.std.specs.Prelude.{ℕ, ◌+◌, ◌-◌, ◌*◌, cond, List, [], ◌∷◌, Ok, Err, Result, nat_le}
+use Rattle.std.specs.List.{list_all}
+use Rattle.std.specs.Char.{is_ascii_digit}
 use Rattle.script.specs.declared.number.NumberFault.{NumberFault}
 use Rattle.script.specs.declared.number.NumberFault.TheVariants.{NotDecimal, TooLarge}
-use Rattle.script.specs.Text.{run_length}
 
 -- The number that decimal digits say behind those already read.
 abbrev pub decimal : ℕ → List ℕ → ℕ
@@ -12,6 +12,6 @@ decimal v (o ∷ os) = decimal (v * 10 + (o - 48)) os
 
 abbrev pub number_answer : List ℕ → ℕ → Result ℕ NumberFault
 number_answer word most =
-    cond (nat_le (length word) (run_length Digit word))
+    cond (list_all is_ascii_digit word)
     (cond (nat_le (decimal 0 word) most) (Ok (decimal 0 word)) (Err TooLarge))
     (Err NotDecimal)

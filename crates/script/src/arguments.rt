@@ -1,88 +1,130 @@
-ghost use Rattle.std.specs.Prelude.{◌≤◌, IfOk};
+ghost use Rattle.std.specs.Prelude.{◌≡◌, ℕ, ◌≤◌, ◌<◌, List, ◌++◌, OnOk, IfOk, Ok, Some, None, codes};
+ghost use Rattle.script.specs.Arguments.{octets_left, octets_said};
+ghost use Rattle.script.specs.Complaints.{unknown_text, IsComplaint};
+ghost use Rattle.script.specs.Numbers.{number_answer};
+ghost use Rattle.script.specs.Text.{first_word};
 
 use crate::complaint::Complaint;
 use crate::hexadecimal;
-use crate::number::{NumberFault, number};
+use crate::number::{NumberFault, NumberType, number};
 use crate::words::Words;
-use std::alloc::Global;
+use std::alloc::{AllocError, Global};
 
-// That a word which is to say `wanted` is missing.
-pub fn missing_word(heap: Global, wanted: &str) -> Complaint {
-    Complaint::of(format!(in heap; "{wanted} is missing at the end of the line"))
-}
-
-// That a word is none of those expected.
-pub fn unknown_word(word: &[u8], heap: Global, expected: &str) -> Complaint {
-    match String::from_utf8_lossy(heap, word) {
-        Ok(text) => Complaint::of(format!(in heap;
-            "`{text}` is not known here; expected {expected}"
-        )),
-        Err(_) => Complaint::NoMemory,
-    }
-}
-
-// The next word, which is to say `wanted`.
-pub fn take_word<'a>(
-    words: &mut Words<'a>,
+// The words of a line that say what a call is asked with, and the memory for what they say.
+#[derive(Drop)]
+pub struct Arguments<'a> {
+    words: Words<'a>,
     heap: Global,
-    wanted: &str,
-) -> Result<&'a [u8], Complaint> {
-    match words.next() {
-        Some(word) => Ok(word),
-        None => Err(missing_word(heap, wanted)),
-    }
 }
 
-// The next word as a number of at most `most`.
-pub fn take_number(
-    words: &mut Words,
-    heap: Global,
-    wanted: &str,
-    most: u64,
-) -> Result<u64, Complaint>
-    ensures { IfOk result (λ v. v ≤ most) }
-{
-    let word = take_word(words, heap, wanted)?;
-    match number(word, most) {
-        Ok(value) => Ok(value),
-        Err(fault) => {
-            let text = String::from_utf8_lossy(heap, word)?;
-            Err(Complaint::Says(match fault {
-                NumberFault::NotDecimal => format!(in heap;
-                    "{wanted} is `{text}`, which is not a decimal number"
-                )?,
-                NumberFault::TooLarge => format!(in heap;
-                    "{wanted} is {text}, but at most {most} is taken"
-                )?,
-            }))
-        }
+impl<'a> Arguments<'a> {
+    pub fn new(words: Words<'a>, heap: Global) -> Arguments<'a>
+        ensures { result.words.rest.now ≡ words.entry.rest.now }
+    {
+        Arguments { words, heap }
     }
-}
 
-// The next word as octets by two hexadecimal digits each, or `-` for none.
-pub fn take_octets(words: &mut Words, heap: Global, wanted: &str) -> Result<Vec<u8>, Complaint> {
-    let word = take_word(words, heap, wanted)?;
-    if let b"-" = word {
-        return Ok(Vec::new(heap));
+    // The next word, which is to say `wanted`.
+    pub fn word(&mut self, wanted: &str) -> Result<&'a [u8], Complaint>
+        ensures shorter { OnOk result (octets_left self.new < octets_left self.old) }
+        ensures read { IfOk result (λ w. first_word self.old.words.rest.now ≡ Some w.now) }
+    {
+        self.words
+            .next()
+            .ok_or_else(|| Complaint::missing(self.heap, wanted))
     }
-    match hexadecimal::octets(heap, word)? {
-        Some(octets) => Ok(octets),
-        None => {
-            let text = String::from_utf8_lossy(heap, word)?;
-            Err(Complaint::Says(format!(in heap;
-                "{wanted} is `{text}`, which is not `-` and not octets of two hexadecimal digits each"
-            )?))
-        }
-    }
-}
 
-// That no word is left.
-pub fn take_end(words: &mut Words, heap: Global) -> Result<(), Complaint> {
-    match words.next() {
-        None => Ok(()),
-        Some(word) => {
-            let text = String::from_utf8_lossy(heap, word)?;
-            Err(Complaint::Says(format!(in heap; "`{text}` is a word too many")?))
+    // The next word as a number.
+    pub fn number<N: NumberType>(&mut self, wanted: &str) -> Result<N, Complaint>
+        ensures shorter { OnOk result (octets_left self.new < octets_left self.old) }
+        ensures within { IfOk result (λ n. (v : ℕ) × (v ≤ N.MOST) × N.try_from_gives v (Ok n)) }
+        ensures said { IfOk result (λ n. (w : List ℕ) × (v : ℕ) × (first_word self.old.words.rest.now ≡ Some w) × (number_answer w N.MOST ≡ Ok v) × N.try_from_gives v (Ok n)) }
+    {
+        let word = self.word(wanted)?;
+        number(word, N::MOST)
+            .and_then(|value| N::try_from(value).map_err(|_| NumberFault::TooLarge))
+            .map_err(|fault| {
+                let text: Result<String, AllocError> = self.number_text(
+                    wanted,
+                    word,
+                    N::MOST,
+                    fault,
+                );
+                Complaint::from(text)
+            })
+    }
+
+    // That a word is not a number that is taken.
+    fn number_text(
+        &self,
+        wanted: &str,
+        word: &[u8],
+        most: u64,
+        fault: NumberFault,
+    ) -> Result<String, AllocError> {
+        let word = String::from_utf8_lossy(self.heap, word)?;
+        match fault {
+            NumberFault::NotDecimal => format!(in self.heap;
+                "{wanted} is `{word}`, which is not a decimal number"
+            ),
+            NumberFault::TooLarge => format!(in self.heap;
+                "{wanted} is {word}, but at most {most} is taken"
+            ),
         }
+    }
+
+    // The next word as octets by two hexadecimal digits each, or `-` for none.
+    pub fn octets(&mut self, wanted: &str) -> Result<Vec<u8>, Complaint>
+        ensures shorter { OnOk result (octets_left self.new < octets_left self.old) }
+        ensures said { IfOk result (λ v. (w : List ℕ) × (first_word self.old.words.rest.now ≡ Some w) × (octets_said w ≡ Some v.items)) }
+    {
+        let word = self.word(wanted)?;
+        if let b"-" = word {
+            return Ok(Vec::new(self.heap));
+        }
+        hexadecimal::octets(self.heap, word)?.ok_or_else(|| {
+            let text: Result<String, AllocError> = self.octets_text(wanted, word);
+            Complaint::from(text)
+        })
+    }
+
+    // That a word does not say octets.
+    fn octets_text(&self, wanted: &str, word: &[u8]) -> Result<String, AllocError> {
+        let word = String::from_utf8_lossy(self.heap, word)?;
+        format!(in self.heap;
+            "{wanted} is `{word}`, which is not `-` and not octets of two hexadecimal digits each"
+        )
+    }
+
+    // That no word is left.
+    pub fn end(&mut self) -> Result<(), Complaint>
+        ensures { OnOk result (first_word self.old.words.rest.now ≡ None) }
+    {
+        if let Some(word) = self.words.next() {
+            let text: Result<String, AllocError> = self.left_over_text(word);
+            return Err(Complaint::from(text));
+        }
+        Ok(())
+    }
+
+    // That a word is left over.
+    fn left_over_text(&self, word: &[u8]) -> Result<String, AllocError> {
+        let word = String::from_utf8_lossy(self.heap, word)?;
+        format!(in self.heap; "`{word}` is a word too many")
+    }
+
+    // What is wrong with the line, in these words.
+    pub fn complaint(&self, text: &str) -> Complaint
+        ensures { IsComplaint result text.now }
+    {
+        let text: Result<String, AllocError> = String::from_str(self.heap, text);
+        Complaint::from(text)
+    }
+
+    // That a word of the line is none of those expected.
+    pub fn unknown(&self, word: &[u8], expected: &str) -> Complaint
+        ensures { IsComplaint result (unknown_text word.now expected.now) }
+    {
+        Complaint::unknown(self.heap, word, expected)
     }
 }

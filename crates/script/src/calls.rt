@@ -1,39 +1,64 @@
-use crate::lines::Lines;
+ghost use Rattle.std.specs.Prelude.{length, IfSome, IsTrue, ◌≡◌};
+ghost use Rattle.std.specs.Iterator.{at_most};
+ghost use Rattle.script.specs.Text.{begins_call};
+
+use crate::arguments::Arguments;
+use crate::lines::{Line, Lines};
 use crate::words::Words;
+use std::alloc::Global;
 
 // A line that is neither empty nor a comment: its number, its first word, and the words behind that.
 #[derive(Drop)]
 pub struct CallLine<'a> {
     pub number: u64,
     pub word: &'a [u8],
-    pub words: Words<'a>,
+    pub arguments: Arguments<'a>,
 }
 
-fn is_comment(word: &[u8]) -> bool {
-    match word {
-        [b'#', ..] => true,
-        _ => false,
+impl<'a> CallLine<'a> {
+    // The call that a line says, or none where the line is empty or a comment.
+    fn of(line: Line<'a>, heap: Global) -> Option<CallLine<'a>>
+        ensures { IfSome result (λ l. IsTrue (begins_call l.word.now)) }
+    {
+        let mut words = Words::new(line.text);
+        match words.next()? {
+            [b'#', ..] => None,
+            word => Some(CallLine {
+                number: line.number,
+                word,
+                arguments: Arguments::new(words, heap),
+            }),
+        }
     }
 }
 
-impl<'a> Lines<'a> {
-    // The next line that says a call, or none at the end of the text.
-    pub fn next_call(&mut self) -> Option<CallLine<'a>> {
-        for _ in 0..self.left() {
-            let Some(line) = self.next() else {
-                return None;
-            };
-            let mut words = Words::new(line.text);
-            if let Some(word) = words.next() {
-                if !is_comment(word) {
-                    return Some(CallLine {
-                        number: line.number,
-                        word,
-                        words,
-                    });
-                }
-            }
+// The lines of a script that say a call, from the first on.
+#[derive(Drop)]
+pub struct CallLines<'a> {
+    lines: Lines<'a>,
+    heap: Global,
+}
+
+impl<'a> CallLines<'a> {
+    pub fn new(text: &'a [u8], heap: Global) -> CallLines<'a>
+        ensures { result.lines.rest.now ≡ text.now }
+    {
+        CallLines {
+            lines: Lines::new(text),
+            heap,
         }
-        None
+    }
+}
+
+impl<'a> Iterator for CallLines<'a> {
+    type Item = CallLine<'a>;
+
+    ghost next_gives = { λ s r t. IfSome r (λ l. IsTrue (begins_call l.word.now)) };
+
+    ghost remaining = { λ s. at_most (length s.lines.rest.now) };
+
+    fn next(&mut self) -> Option<CallLine<'a>> {
+        let heap = self.heap;
+        self.lines.find_map(|line| CallLine::of(line, heap))
     }
 }

@@ -2,16 +2,17 @@ ghost use Rattle.std.specs.Prelude.{◌≡◌, ◌<◌, ◌++◌, IfSome, IfOk, 
 ghost use Rattle.script.specs.Hexadecimal.{digit_value, octets_of_digits, digit_of, hexadecimal_text, OctetsReadBack};
 
 use std::alloc::{AllocError, Global};
+use std::fmt;
 
-// The value of a hexadecimal digit of either case.
+// The value of a hexadecimal digit of either case: three ranges, each with its own.
 fn digit_value(octet: u8) -> Option<u8>
     ensures value { result ≡ digit_value octet }
     ensures small { IfSome result (λ v. v < 16) }
 {
     match octet {
-        48..=57 => Some(octet - 48),
-        97..=102 => Some(octet - 87),
-        65..=70 => Some(octet - 55),
+        b'0'..=b'9' => Some(octet - b'0'),
+        b'a'..=b'f' => Some(octet - b'a' + 10),
+        b'A'..=b'F' => Some(octet - b'A' + 10),
         _ => None,
     }
 }
@@ -20,49 +21,38 @@ fn digit_value(octet: u8) -> Option<u8>
 pub fn octets(heap: Global, word: &[u8]) -> Result<Option<Vec<u8>>, AllocError>
     ensures { IfOk result (λ o. MatchOption o (octets_of_digits word.now ≡ None) (λ v. octets_of_digits word.now ≡ Some v.items)) }
 {
-    if word.len() % 2 != 0 {
-        return Ok(None);
-    }
-    let count = word.len() / 2;
-    let mut out = Vec::with_capacity(heap, count)?;
-    for i in 0..count {
-        let Some(high) = digit_value(word[2 * i]) else {
+    let mut octets = Vec::with_capacity(heap, word.len() / 2)?;
+    let mut rest = word;
+    // Two digits at a time; a loop, since the memory for an octet may run out.
+    while let [high, low, behind @ ..] = rest {
+        let (Some(high), Some(low)) = (digit_value(*high), digit_value(*low)) else {
             return Ok(None);
         };
-        let Some(low) = digit_value(word[2 * i + 1]) else {
-            return Ok(None);
-        };
-        out.push(high * 16 + low)?;
+        octets.push(high * 16 + low)?;
+        rest = behind;
     }
-    Ok(Some(out))
+    Ok(rest.is_empty().then_some(octets))
 }
 
-// A digit in lower case.
-fn digit(n: u8) -> u8
-    requires { n < 16 }
-    ensures { result ≡ digit_of n }
-{
-    if n < 10 { n + 48 } else { n + 87 }
-}
+// Octets printed by two digits each, in lower case; no octets as a dash.
+#[derive(Clone, Copy)]
+pub struct Hexadecimal<'a>(pub &'a [u8]);
 
-// Writes octets by two digits each, in lower case; no octets as a dash.
-pub fn push_octets(out: &mut Vec<u8>, octets: &[u8]) -> Result<(), AllocError>
-    ensures { OnOk result (out.new.items ≡ out.old.items ++ hexadecimal_text octets.now) }
-{
-    if octets.len() == 0 {
-        out.push(45)?;
-        return Ok(());
+impl fmt::Display for Hexadecimal<'_> {
+    ghost output = { λ h. Some (hexadecimal_text h.0.now) };
+
+    fn fmt<W: fmt::Write>(&self, f: &mut fmt::Formatter<W>) -> fmt::Result {
+        if self.0.is_empty() {
+            return write!(f, "-");
+        }
+        for &octet in self.0 {
+            write!(f, "{octet:02x}")?;
+        }
+        Ok(())
     }
-    for octet in octets {
-        out.push(digit(*octet / 16))?;
-        out.push(digit(*octet % 16))?;
-    }
-    Ok(())
 }
 
 // What was written is read back.
-pub fn octets_read_back() -> u8
+pub fn octets_read_back()
     ensures { OctetsReadBack }
-{
-    0
-}
+{}

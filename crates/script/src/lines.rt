@@ -1,7 +1,9 @@
-ghost use Rattle.std.specs.Prelude.{◌≡◌, length};
+ghost use Rattle.std.specs.Prelude.{◌≡◌, length, IfSome, Some};
+ghost use Rattle.std.specs.Iterator.{at_most, UpTo};
+ghost use Rattle.std.specs.Iterator.SizeHint.{IsWithinCount};
 ghost use Rattle.script.specs.Lines.{first_line, after_line, line_text, number_after, Numbered};
 
-use crate::run::{Class, run_length};
+use crate::cut::cut_at_first;
 
 // A line with its number, from 1 on.
 #[derive(Clone, Copy)]
@@ -27,32 +29,36 @@ impl<'a> Lines<'a> {
             number: 0,
         }
     }
+}
 
-    // The next line, or none at the end of the text.
-    pub fn next(&mut self) -> Option<Line<'a>>
-        ensures line { line_text result ≡ first_line self.old.rest.now }
-        ensures rest { self.new.rest.now ≡ after_line self.old.rest.now }
-        ensures number { self.new.number ≡ number_after self.old.number self.old.rest.now }
-        ensures numbered { Numbered result self.new.number }
-    {
-        let rest = self.rest;
-        if rest.len() == 0 {
+impl<'a> Iterator for Lines<'a> {
+    type Item = Line<'a>;
+
+    ghost next_gives = { λ s r t. (line_text r ≡ first_line s.rest.now) × (t.rest.now ≡ after_line s.rest.now) × (t.number ≡ number_after s.number s.rest.now) × Numbered r t.number };
+
+    // A line has an octet at least, its text's or its end.
+    ghost remaining = { λ s. at_most (length s.rest.now) };
+
+    fn next(&mut self) -> Option<Line<'a>> {
+        if self.rest.is_empty() {
             return None;
         }
-        let n = run_length(rest, Class::Line);
-        let end = if n < rest.len() { n + 1 } else { n };
-        self.rest = &rest[end..];
+        let (text, behind) = cut_at_first(self.rest, |octet| octet == b'\n');
+        let (_, rest) = behind.split_at(behind.len().min(1));
+        self.rest = rest;
         self.number = self.number.saturating_add(1);
         Some(Line {
             number: self.number,
-            text: &rest[0..n],
+            text,
         })
     }
 
-    // How many octets of the text are left.
-    pub fn left(&self) -> usize
-        ensures { result ≡ length self.now.rest.now }
+    // No more than the octets that are left.
+    fn size_hint(&self) -> (usize, Option<usize>)
+        ensures lower { IsWithinCount result.0 (at_most (length self.now.rest.now)) }
+        ensures upper { IfSome result.1 (UpTo (at_most (length self.now.rest.now))) }
+        ensures octets { result.1 ≡ Some (length self.now.rest.now) }
     {
-        self.rest.len()
+        (0, Some(self.rest.len()))
     }
 }

@@ -1,16 +1,13 @@
-ghost use Rattle.std.specs.Prelude.{◌≡◌, ◌++◌, OnOk};
+ghost use Rattle.std.specs.Prelude.{OnOk};
+ghost use Rattle.std.specs.Fmt.{AppendsText};
 
-use std::alloc::{AllocError, Global};
+use std::alloc::AllocError;
+use std::fmt::Display;
 
-// Puts text behind an answer.
-pub fn say(out: &mut Vec<u8>, text: &str) -> Result<(), AllocError>
-    ensures { OnOk result (out.new.items ≡ out.old.items ++ text.now) }
+// Puts what a value prints behind an answer.
+pub fn say<D: Display + Drop>(out: &mut Vec<u8>, what: D) -> Result<(), AllocError>
+    ensures { OnOk result (AppendsText out.old.items out.new.items (D.output what)) }
 {
+    let text = what.to_string(*out.allocator())?;
     out.extend_from_slice(text.as_bytes())
-}
-
-// Puts a decimal number behind an answer.
-pub fn say_number(out: &mut Vec<u8>, heap: Global, number: u64) -> Result<(), AllocError> {
-    let text = format!(in heap; "{number}")?;
-    say(out, text.as_str())
 }

@@ -1,7 +1,9 @@
-ghost use Rattle.std.specs.Prelude.{◌≡◌, length};
+ghost use Rattle.std.specs.Prelude.{◌≡◌, length, IfSome, Some};
+ghost use Rattle.std.specs.Iterator.{at_most, UpTo};
+ghost use Rattle.std.specs.Iterator.SizeHint.{IsWithinCount};
 ghost use Rattle.script.specs.Text.{first_word, after_word, text_in};
 
-use crate::run::{Class, run_length};
+use crate::cut::{cut_at_first, is_blank};
 
 // The words of a line, from the first on.
 #[derive(Drop)]
@@ -15,23 +17,29 @@ impl<'a> Words<'a> {
     {
         Words { rest: line }
     }
+}
 
-    // The next word, or none at the end of the line.
-    pub fn next(&mut self) -> Option<&'a [u8]>
-        ensures word { text_in result ≡ first_word self.old.rest.now }
-        ensures rest { self.new.rest.now ≡ after_word self.old.rest.now }
-    {
-        let rest = self.rest;
-        let from = &rest[run_length(rest, Class::Blank)..];
-        let n = run_length(from, Class::Word);
-        self.rest = &from[n..];
-        if n == 0 { None } else { Some(&from[0..n]) }
+impl<'a> Iterator for Words<'a> {
+    type Item = &'a [u8];
+
+    ghost next_gives = { λ s r t. (text_in r ≡ first_word s.rest.now) × (t.rest.now ≡ after_word s.rest.now) };
+
+    // A word has an octet at least.
+    ghost remaining = { λ s. at_most (length s.rest.now) };
+
+    fn next(&mut self) -> Option<&'a [u8]> {
+        let (_, from) = cut_at_first(self.rest, |octet| !is_blank(octet));
+        let (word, rest) = cut_at_first(from, is_blank);
+        self.rest = rest;
+        if word.is_empty() { None } else { Some(word) }
     }
 
-    // How many octets of the line are left.
-    pub fn left(&self) -> usize
-        ensures { result ≡ length self.now.rest.now }
+    // No more than the octets that are left.
+    fn size_hint(&self) -> (usize, Option<usize>)
+        ensures lower { IsWithinCount result.0 (at_most (length self.now.rest.now)) }
+        ensures upper { IfSome result.1 (UpTo (at_most (length self.now.rest.now))) }
+        ensures octets { result.1 ≡ Some (length self.now.rest.now) }
     {
-        self.rest.len()
+        (0, Some(self.rest.len()))
     }
 }

@@ -1,3 +1,5 @@
+use codec::record::{FRAME_HEADER_LENGTH, LONGEST_RECORD};
+
 // Frames with data of one length; records for a full transfer buffer; records held in the frame buffer all the time;
 // and rounds, of one frame each, in a batch.
 #[derive(Clone, Copy)]
@@ -8,19 +10,13 @@ pub struct Load {
     pub rounds: u32,
 }
 
-// What stands before a frame's data.
-const HEADER_LENGTH: usize = 13;
-
-// The longest record.
-const LONGEST_RECORD: usize = 2061;
-
 // How many PDUs a transport has place for.
 pub const PDUS: usize = 4;
 
 impl Load {
     // The octets of a frame's record.
     pub fn record_length(&self) -> usize {
-        self.length.saturating_add(HEADER_LENGTH)
+        self.length.saturating_add(FRAME_HEADER_LENGTH)
     }
 
     // The records that a frame buffer has place for: those held, and one that comes before another goes.

@@ -34,17 +34,19 @@ struct Order {
 fn read_order(rt: &HostRuntime) -> io::Result<Order> {
     let mut numbers = Vec::new(rt.alloc());
     let mut piles = Vec::new(rt.alloc());
+    // A loop, since it fills two lists, and either may run out of memory.
     for text in env::args(rt)?.skip(1) {
         if let Ok(number) = text.parse::<u32>() {
             numbers.push(number)?;
-        } else if let Some(pile) = Pile::named(&text) {
+        } else if let Ok(pile) = text.parse::<Pile>() {
             piles.push(pile)?;
         }
     }
-    let mut lengths = Vec::new(rt.alloc());
-    for number in numbers.iter().skip(2) {
-        lengths.push(*number as usize)?;
-    }
+    let mut lengths: Vec<usize> = numbers
+        .iter()
+        .skip(2)
+        .map(|number| *number as usize)
+        .collect(rt.alloc())?;
     if lengths.is_empty() {
         lengths = Vec::from_slice(rt.alloc(), &LENGTHS)?;
     }

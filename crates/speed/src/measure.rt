@@ -1,7 +1,7 @@
 use crate::load::Load;
-use crate::receiver::{Desk, begin, receive, serve};
-use crate::tally::{Depth, Tally};
-use provider::provider::Provider;
+use crate::pile::Pile;
+use crate::receiver::Receiver;
+use crate::tally::Tally;
 use queue::interface::Queue;
 use std::io;
 use std::time::Instant;
@@ -9,18 +9,22 @@ use std::time::Instant;
 // How often a load is timed. The fastest time counts, since other work on the machine only adds to it.
 const BATCHES: u32 = 20;
 
-// How often a batch is played, and the nanoseconds of the fastest one.
-fn fastest<F: Queue, T: Queue>(
+// The rounds of the batch whose octets are all summed.
+const WHOLE_ROUNDS: u32 = 1000;
+
+// The nanoseconds of the fastest batch.
+fn fastest<F: Queue + Drop, T: Queue + Drop>(
     rt: &HostRuntime,
-    provider: &mut Provider<F, T>,
-    desk: &mut Desk,
+    receiver: &mut Receiver<F, T>,
     rounds: u32,
-    tally: &mut Tally,
 ) -> io::Result<u128> {
     let mut best = u128::MAX;
     for _ in 0..BATCHES {
         let start = Instant::now(rt)?;
-        serve(provider, desk, rounds, tally, Depth::Ends);
+        receiver.serve(
+            rounds,
+            |tally: &mut Tally, pdu: &[u8]| tally.enter_ends(pdu),
+        );
         best = best.min(start.elapsed(rt)?.as_nanos());
     }
     Ok(best)
@@ -30,7 +34,7 @@ fn fastest<F: Queue, T: Queue>(
 // collected goes to standard output, the time to standard error.
 pub fn measure<F: Queue + Drop, T: Queue + Drop>(
     rt: &HostRuntime,
-    name: &str,
+    pile: Pile,
     frames: F,
     transport: T,
     load: &Load,
@@ -41,28 +45,18 @@ pub fn measure<F: Queue + Drop, T: Queue + Drop>(
         held,
         rounds,
     } = *load;
-    let Some(mut provider) = begin(frames, transport, load) else {
-        return println!(rt; "{name} {length} {buffer_size} {held} not opened");
+    let Some(mut receiver) = Receiver::begin(rt.alloc(), frames, transport, load)? else {
+        return println!(rt; "{pile} {length} {buffer_size} {held} not opened");
     };
-    let mut data = vec![in rt.alloc(); 7u8; length]?;
-    let mut out = vec![in rt.alloc(); 0u8; load.longest_pdu()]?;
-    let mut desk = Desk {
-        data: &mut data,
-        out: &mut out,
-    };
-    let mut tally = Tally::none();
     for number in 0..held {
-        receive(&mut provider, desk.data, number, &mut tally);
+        receiver.receive(number);
     }
-    serve(
-        &mut provider,
-        &mut desk,
-        rounds.min(1000),
-        &mut tally,
-        Depth::Whole,
+    receiver.serve(
+        rounds.min(WHOLE_ROUNDS),
+        |tally: &mut Tally, pdu: &[u8]| tally.enter_whole(pdu),
     );
-    let best = fastest(rt, &mut provider, &mut desk, rounds, &mut tally)?;
-    print!(rt; "{name} {length} {buffer_size} {held}")?;
-    tally.show(rt)?;
-    eprintln!(rt; "{name} {length} {buffer_size} {held} {rounds} {best}")
+    let best = fastest(rt, &mut receiver, rounds)?;
+    print!(rt; "{pile} {length} {buffer_size} {held}")?;
+    receiver.tally.show(rt)?;
+    eprintln!(rt; "{pile} {length} {buffer_size} {held} {rounds} {best}")
 }

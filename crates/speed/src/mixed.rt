@@ -1,10 +1,13 @@
-use crate::receiver::{BIND, Desk, IDENTIFIER, VERSION};
-use crate::tally::{Depth, Tally};
+use crate::receiver::{BIND, IDENTIFIER, VERSION};
+use crate::tally::Tally;
+use codec::time::TimeNumbers;
 use layers::quota::Quota;
 use packed::packed::Packed;
 use provider::answer::{InvocationRefusal, MoveAnswer, Performed, ReceptionRefusal, TickAnswer};
 use provider::provider::Provider;
+use provider::settings::Opening;
 use queue::interface::Queue;
+use std::alloc::{AllocError, Global};
 use std::io;
 
 // Calls of all kinds in no order, with numbers that are out of range now and then, over queues that are often full:
@@ -59,11 +62,9 @@ impl Dice {
     }
 }
 
+// What is answered, as numbers to sum: by functions, since a program can write no `From` between types of others.
 fn reception_code(answer: Result<(), ReceptionRefusal>) -> u64 {
-    match answer {
-        Ok(()) => 0,
-        Err(refusal) => refusal.number() as u64,
-    }
+    answer.map_or_else(|refusal| u64::from(refusal.number()), |()| 0)
 }
 
 fn move_code(answer: MoveAnswer) -> u64 {
@@ -102,138 +103,162 @@ fn invocation_code(answer: Result<Performed, InvocationRefusal>) -> u64 {
     }
 }
 
-fn acquire<F: Queue, T: Queue>(
-    provider: &mut Provider<F, T>,
-    dice: &mut Dice,
-    data: &[u8],
-    tally: &mut Tally,
-) {
-    let quality = (dice.roll() % 4) as u8;
-    let millisecond = dice.roll() % 90_000_000;
-    let microsecond = dice.roll() % 1_010;
-    let length = (dice.roll() % 2_060) as usize;
-    let answer = if length <= data.len() {
-        provider.acquire(quality, 1, millisecond, microsecond, &data[0..length])
-    } else {
-        Ok(())
-    };
-    tally.acquired(answer.is_ok());
-    tally.mix(reception_code(answer));
+// A provider and the numbers that choose its calls, the data of frames, the buffer that PDUs are collected into, and what
+// has been answered.
+#[derive(Drop)]
+struct RandomReceiver<F, T> {
+    provider: Provider<F, T>,
+    dice: Dice,
+    data: Vec<u8>,
+    out: Vec<u8>,
+    tally: Tally,
 }
 
-fn note<F: Queue, T: Queue>(provider: &mut Provider<F, T>, dice: &mut Dice, tally: &mut Tally) {
-    let kind = (dice.roll() % 3) as u8;
-    let millisecond = dice.roll() % 90_000_000;
-    // Production is halted only now and then, since nothing starts while it is.
-    let status = match dice.roll() % 16 {
-        0 => 2,
-        1 => 3,
-        2 => 1,
-        _ => 0,
-    };
-    tally.mix(reception_code(provider.note(kind, 1, millisecond, 5, status)));
-}
-
-fn collect<F: Queue, T: Queue>(
-    provider: &mut Provider<F, T>,
-    dice: &mut Dice,
-    out: &mut [u8],
-    tally: &mut Tally,
-) {
-    let room = (dice.roll() as usize % 12_400).min(out.len());
-    match provider.collect(&mut out[0..room]) {
-        Ok(length) => tally.collected(out, length, Depth::Whole),
-        Err(refusal) => tally.mix(refusal.number() as u64),
+impl<F: Queue, T: Queue> RandomReceiver<F, T> {
+    fn acquire(&mut self) {
+        let quality = (self.dice.roll() % 4) as u8;
+        let time = TimeNumbers {
+            day: 1,
+            millisecond: self.dice.roll() % 90_000_000,
+            microsecond: self.dice.roll() % 1_010,
+        };
+        let length = (self.dice.roll() % 2_060) as usize;
+        let RandomReceiver {
+            provider,
+            data,
+            tally,
+            ..
+        } = self;
+        let answer = data
+            .get(..length)
+            .map_or(Ok(()), |data| provider.acquire(quality, time, data));
+        tally.acquired(answer.is_ok());
+        tally.mix(reception_code(answer));
     }
-}
 
-fn invoke<F: Queue, T: Queue>(provider: &mut Provider<F, T>, dice: &mut Dice) -> u64 {
-    let octets: &[u8] = match dice.roll() % 32 {
-        0 => &UNBIND_SUSPEND,
-        1 => &PEER_ABORT,
-        2 => &BIND_OTHER,
-        3 => &BIND_OLD,
-        4 => &START_TURNED,
-        5 => &[0x49, 0x56, 2],
-        6..=9 => &STOP,
-        10..=15 => &START_SPAN,
-        16..=21 => &START_ALL,
-        _ => &BIND,
-    };
-    invocation_code(provider.invoke(octets))
-}
-
-// Binds and starts, from whatever phase: where an association is there already, this ends it.
-fn restart<F: Queue, T: Queue>(provider: &mut Provider<F, T>, dice: &mut Dice, tally: &mut Tally) {
-    tally.mix(invocation_code(provider.invoke(&BIND)));
-    let answer = if dice.roll() % 2 == 0 {
-        provider.invoke(&START_ALL)
-    } else {
-        provider.invoke(&START_SPAN)
-    };
-    tally.mix(invocation_code(answer));
-}
-
-// One call, or a restart.
-fn step<F: Queue, T: Queue>(
-    provider: &mut Provider<F, T>,
-    dice: &mut Dice,
-    desk: &mut Desk,
-    tally: &mut Tally,
-) {
-    match dice.roll() % 64 {
-        0..=19 => acquire(provider, dice, desk.data, tally),
-        20 => note(provider, dice, tally),
-        21..=46 => tally.mix(move_code(provider.move_record())),
-        47..=53 => tally.mix(tick_code(provider.tick())),
-        54..=61 => collect(provider, dice, desk.out, tally),
-        62 => restart(provider, dice, tally),
-        _ => tally.mix(invoke(provider, dice)),
+    fn note(&mut self) {
+        let kind = (self.dice.roll() % 3) as u8;
+        let time = TimeNumbers {
+            day: 1,
+            millisecond: self.dice.roll() % 90_000_000,
+            microsecond: 5,
+        };
+        // Production is halted only now and then, since nothing starts while it is.
+        let status = match self.dice.roll() % 16 {
+            0 => 2,
+            1 => 3,
+            2 => 1,
+            _ => 0,
+        };
+        let answer = self.provider.note(kind, time, status);
+        self.tally.mix(reception_code(answer));
     }
-}
 
-// Some hundred calls on a fresh provider; a play can come to a stop, with production halted and the frame buffer full.
-// The quota never bears. It makes a type of provider that is not timed, so that those which are timed are compiled for
-// the receiver's calls alone.
-fn play_once(
-    frames: &mut [u8],
-    transport: &mut [u8],
-    desk: &mut Desk,
-    seed: u64,
-    tally: &mut Tally,
-) {
-    let mut frames = Packed::new(frames);
-    let mut below = Packed::new(transport);
-    let mut transport = Quota::new(&mut below, u32::MAX);
-    let mut provider = Provider::open(
-        &mut frames,
-        &mut transport,
-        BUFFER_SIZE,
-        LATENCY_LIMIT,
-        VERSION,
-        &IDENTIFIER,
-    );
-    let mut dice = Dice(seed);
-    for number in 0..CALLS {
-        if desk.data.len() > 0 {
-            desk.data[0] = (number % 256) as u8;
+    fn collect(&mut self) {
+        let room = (self.dice.roll() as usize % 12_400).min(self.out.len());
+        let RandomReceiver {
+            provider,
+            out,
+            tally,
+            ..
+        } = self;
+        match provider.collect(&mut out[..room]) {
+            Ok(length) => {
+                if let Some(pdu) = out.get(..length) {
+                    tally.enter_whole(pdu);
+                }
+            }
+            Err(refusal) => tally.mix(u64::from(refusal.number())),
         }
-        step(&mut provider, &mut dice, desk, tally);
     }
+
+    fn invoke(&mut self, octets: &[u8]) {
+        let answer = self.provider.invoke(octets);
+        self.tally.mix(invocation_code(answer));
+    }
+
+    fn invoke_any(&mut self) {
+        let octets: &[u8] = match self.dice.roll() % 32 {
+            0 => &UNBIND_SUSPEND,
+            1 => &PEER_ABORT,
+            2 => &BIND_OTHER,
+            3 => &BIND_OLD,
+            4 => &START_TURNED,
+            5 => &[0x49, 0x56, 2],
+            6..=9 => &STOP,
+            10..=15 => &START_SPAN,
+            16..=21 => &START_ALL,
+            _ => &BIND,
+        };
+        self.invoke(octets);
+    }
+
+    // Binds and starts, from whatever phase: where an association is there already, this ends it.
+    fn restart(&mut self) {
+        self.invoke(&BIND);
+        if self.dice.roll() % 2 == 0 {
+            self.invoke(&START_ALL);
+        } else {
+            self.invoke(&START_SPAN);
+        }
+    }
+
+    // One call, or a restart, on data that this number marks.
+    fn step(&mut self, number: u32) {
+        if let Some(first) = self.data.first_mut() {
+            *first = (number % 256) as u8;
+        }
+        match self.dice.roll() % 64 {
+            0..=19 => self.acquire(),
+            20 => self.note(),
+            21..=46 => {
+                let code = move_code(self.provider.move_record());
+                self.tally.mix(code);
+            }
+            47..=53 => {
+                let code = tick_code(self.provider.tick());
+                self.tally.mix(code);
+            }
+            54..=61 => self.collect(),
+            62 => self.restart(),
+            _ => self.invoke_any(),
+        }
+    }
+}
+
+// Some hundred calls on a fresh provider, entered in the tally; a play can come to a stop, with production halted and the
+// frame buffer full. The quota never bears. It makes a type of provider that is not timed, so that those which are timed
+// are compiled for the receiver's calls alone.
+fn play_once(heap: Global, seed: u64, tally: Tally) -> Result<Tally, AllocError> {
+    let mut frames = vec![in heap; 0; 10_000]?;
+    let mut transport = vec![in heap; 0; 9_000]?;
+    let provider = Provider::open(
+        Packed::new(&mut frames),
+        Quota::new(Packed::new(&mut transport), u32::MAX),
+        Opening {
+            buffer_size: BUFFER_SIZE,
+            latency_limit: LATENCY_LIMIT,
+            version: VERSION,
+            identifier: &IDENTIFIER,
+        },
+    );
+    let mut receiver = RandomReceiver {
+        provider,
+        dice: Dice(seed),
+        data: vec![in heap; 7; DATA_ROOM]?,
+        out: vec![in heap; 0; OUT_ROOM]?,
+        tally,
+    };
+    for number in 0..CALLS {
+        receiver.step(number);
+    }
+    Ok(receiver.tally)
 }
 
 pub fn play(rt: &HostRuntime) -> io::Result<()> {
-    let mut frames = vec![in rt.alloc(); 0u8; 10_000]?;
-    let mut transport = vec![in rt.alloc(); 0u8; 9_000]?;
-    let mut data = vec![in rt.alloc(); 7u8; DATA_ROOM]?;
-    let mut out = vec![in rt.alloc(); 0u8; OUT_ROOM]?;
-    let mut desk = Desk {
-        data: &mut data,
-        out: &mut out,
-    };
-    let mut tally = Tally::none();
+    let mut tally = Tally::default();
     for seed in 0..PLAYS {
-        play_once(&mut frames, &mut transport, &mut desk, seed, &mut tally);
+        tally = play_once(rt.alloc(), seed, tally)?;
     }
     print!(rt; "mixed")?;
     tally.show(rt)

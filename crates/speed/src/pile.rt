@@ -6,7 +6,8 @@ use packed::packed::Packed;
 use slot::note::SlotNote;
 use slot::slotted::Slotted;
 use std::alloc::{AllocError, Global};
-use std::io;
+use std::str::FromStr;
+use std::{fmt, io};
 
 // The kinds of piles: frame buffer and transport are both of the kind.
 #[derive(Clone, Copy)]
@@ -19,34 +20,68 @@ pub enum Pile {
 
 pub const PILES: [Pile; 4] = [Pile::Slot, Pile::Packed, Pile::Quota, Pile::Tandem];
 
-impl Pile {
-    fn name(self) -> &'static str {
-        match self {
+impl fmt::Display for Pile {
+    fn fmt<W: fmt::Write>(&self, f: &mut fmt::Formatter<W>) -> fmt::Result {
+        f.write_str(match self {
             Pile::Slot => "slot",
             Pile::Packed => "packed",
             Pile::Quota => "quota",
             Pile::Tandem => "tandem",
+        })
+    }
+}
+
+// That no pile has this name.
+#[derive(Clone, Copy)]
+pub struct UnknownPile;
+
+impl FromStr for Pile {
+    type Err = UnknownPile;
+
+    fn from_str(name: &str) -> Result<Pile, UnknownPile> {
+        match name {
+            "slot" => Ok(Pile::Slot),
+            "packed" => Ok(Pile::Packed),
+            "quota" => Ok(Pile::Quota),
+            "tandem" => Ok(Pile::Tandem),
+            _ => Err(UnknownPile),
         }
     }
+}
 
-    // The pile of a name.
-    pub fn named(name: &str) -> Option<Pile> {
-        for pile in PILES {
-            if pile.name() == name {
-                return Some(pile);
-            }
-        }
-        None
-    }
-
+impl Pile {
     // Plays a load on a provider over piles of this kind.
     pub fn play(self, rt: &HostRuntime, load: &Load) -> io::Result<()> {
+        // Each makes queues of types of its own.
         match self {
             Pile::Slot => slot(rt, load),
             Pile::Packed => packed(rt, load),
             Pile::Quota => quota(rt, load),
             Pile::Tandem => tandem(rt, load),
         }
+    }
+}
+
+// The memory of a slot queue.
+#[derive(Drop)]
+struct SlotMemory {
+    octets: Vec<u8>,
+    notes: Vec<SlotNote>,
+    width: usize,
+}
+
+impl SlotMemory {
+    fn new(heap: Global, width: usize, slots: usize) -> Result<SlotMemory, AllocError> {
+        Ok(SlotMemory {
+            octets: vec![in heap; 0; width.saturating_mul(slots)]?,
+            notes: vec![in heap; SlotNote::blank(); slots]?,
+            width,
+        })
+    }
+
+    fn queue(&mut self) -> Slotted<'_> {
+        let width = self.width;
+        Slotted::new(&mut self.octets, &mut self.notes, width)
     }
 }
 
@@ -59,63 +94,58 @@ fn packed_memory(
     longest: usize,
 ) -> Result<Vec<u8>, AllocError> {
     let octets = length.saturating_add(2).saturating_mul(records);
-    Vec::from_elem(heap, 0, octets.max(longest).saturating_add(5))
+    vec![in heap; 0; octets.max(longest).saturating_add(5)]
 }
 
-fn slot_memory(heap: Global, width: usize, slots: usize) -> Result<Vec<u8>, AllocError> {
-    Vec::from_elem(heap, 0, width.saturating_mul(slots))
+// Octets for a packed frame buffer, and for a packed transport of this many PDUs.
+fn frame_octets(heap: Global, load: &Load) -> Result<Vec<u8>, AllocError> {
+    packed_memory(
+        heap,
+        load.record_length(),
+        load.records(),
+        load.longest_record(),
+    )
+}
+
+fn transport_octets(heap: Global, load: &Load, pdus: usize) -> Result<Vec<u8>, AllocError> {
+    packed_memory(heap, load.longest_pdu(), pdus, 0)
 }
 
 fn slot(rt: &HostRuntime, load: &Load) -> io::Result<()> {
-    let heap = rt.alloc();
-    let mut octets = slot_memory(heap, load.longest_record(), load.records())?;
-    let mut notes = vec![in heap; SlotNote::blank(); load.records()]?;
-    let mut frames = Slotted::new(&mut octets, &mut notes, load.longest_record());
-    let mut octets = slot_memory(heap, load.longest_pdu(), PDUS)?;
-    let mut notes = vec![in heap; SlotNote::blank(); PDUS]?;
-    let mut transport = Slotted::new(&mut octets, &mut notes, load.longest_pdu());
-    measure(rt, "slot", &mut frames, &mut transport, load)
+    let mut frames = SlotMemory::new(rt.alloc(), load.longest_record(), load.records())?;
+    let mut transport = SlotMemory::new(rt.alloc(), load.longest_pdu(), PDUS)?;
+    measure(rt, Pile::Slot, frames.queue(), transport.queue(), load)
 }
 
 fn packed(rt: &HostRuntime, load: &Load) -> io::Result<()> {
-    let heap = rt.alloc();
-    let (length, records) = (load.record_length(), load.records());
-    let mut octets = packed_memory(heap, length, records, load.longest_record())?;
-    let mut frames = Packed::new(&mut octets);
-    let mut octets = packed_memory(heap, load.longest_pdu(), PDUS, 0)?;
-    let mut transport = Packed::new(&mut octets);
-    measure(rt, "packed", &mut frames, &mut transport, load)
+    let mut frames = frame_octets(rt.alloc(), load)?;
+    let mut transport = transport_octets(rt.alloc(), load, PDUS)?;
+    measure(
+        rt,
+        Pile::Packed,
+        Packed::new(&mut frames),
+        Packed::new(&mut transport),
+        load,
+    )
 }
 
 // Packed queues of which no more records are in use than are held here.
 fn quota(rt: &HostRuntime, load: &Load) -> io::Result<()> {
-    let heap = rt.alloc();
-    let (length, records) = (load.record_length(), load.records());
-    let mut octets = packed_memory(heap, length, records, load.longest_record())?;
-    let mut below = Packed::new(&mut octets);
-    let mut frames = Quota::new(&mut below, load.held.saturating_add(2));
-    let mut octets = packed_memory(heap, load.longest_pdu(), PDUS, 0)?;
-    let mut below = Packed::new(&mut octets);
-    let mut transport = Quota::new(&mut below, PDUS as u32);
-    measure(rt, "quota", &mut frames, &mut transport, load)
+    let mut frames = frame_octets(rt.alloc(), load)?;
+    let frames = Quota::new(Packed::new(&mut frames), load.held.saturating_add(2));
+    let mut transport = transport_octets(rt.alloc(), load, PDUS)?;
+    let transport = Quota::new(Packed::new(&mut transport), PDUS as u32);
+    measure(rt, Pile::Quota, frames, transport, load)
 }
 
 // The first half goes to slots, the others to a packed queue behind them.
 fn tandem(rt: &HostRuntime, load: &Load) -> io::Result<()> {
     let heap = rt.alloc();
-    let slots = load.held as usize / 2;
-    let mut octets = slot_memory(heap, load.longest_record(), slots)?;
-    let mut notes = vec![in heap; SlotNote::blank(); slots]?;
-    let mut near = Slotted::new(&mut octets, &mut notes, load.longest_record());
-    let (length, records) = (load.record_length(), load.records());
-    let mut octets = packed_memory(heap, length, records, load.longest_record())?;
-    let mut far = Packed::new(&mut octets);
-    let mut frames = Tandem::new(&mut near, &mut far);
-    let mut octets = slot_memory(heap, load.longest_pdu(), PDUS / 2)?;
-    let mut notes = vec![in heap; SlotNote::blank(); PDUS / 2]?;
-    let mut near = Slotted::new(&mut octets, &mut notes, load.longest_pdu());
-    let mut octets = packed_memory(heap, load.longest_pdu(), PDUS / 2, 0)?;
-    let mut far = Packed::new(&mut octets);
-    let mut transport = Tandem::new(&mut near, &mut far);
-    measure(rt, "tandem", &mut frames, &mut transport, load)
+    let mut near = SlotMemory::new(heap, load.longest_record(), load.held as usize / 2)?;
+    let mut far = frame_octets(heap, load)?;
+    let frames = Tandem::new(near.queue(), Packed::new(&mut far));
+    let mut near = SlotMemory::new(heap, load.longest_pdu(), PDUS / 2)?;
+    let mut far = transport_octets(heap, load, PDUS / 2)?;
+    let transport = Tandem::new(near.queue(), Packed::new(&mut far));
+    measure(rt, Pile::Tandem, frames, transport, load)
 }

@@ -1,8 +1,11 @@
 use crate::load::Load;
-use crate::tally::{Depth, Tally};
+use crate::tally::Tally;
+use codec::time::TimeNumbers;
 use provider::answer::{MoveAnswer, TickAnswer};
 use provider::provider::Provider;
+use provider::settings::Opening;
 use queue::interface::Queue;
+use std::alloc::{AllocError, Global};
 
 pub const IDENTIFIER: [u8; 3] = [0x61, 0x62, 0x63];
 
@@ -22,82 +25,101 @@ const START: [u8; 24] = [
     0x49, 0x56, 0, 0, 2, 0, 1, 0, 1, 0, 0, 0, 0, 0, 0, 1, 0, 2, 0, 0, 0, 0, 0, 0,
 ];
 
-// A receiver's memory: the data of the frame that comes, and the buffer that PDUs are collected into.
+// A receiver at work: its provider, the data of the frame that comes, the buffer that PDUs are collected into, and what
+// it has done.
 #[derive(Drop)]
-pub struct Desk<'a> {
-    pub data: &'a mut [u8],
-    pub out: &'a mut [u8],
-}
-
-// Opens a provider over two queues and begins a run, unless something is refused.
-pub fn begin<F: Queue + Drop, T: Queue + Drop>(
-    frames: F,
-    transport: T,
-    load: &Load,
-) -> Option<Provider<F, T>> {
-    let mut provider = Provider::open(
-        frames,
-        transport,
-        load.buffer_size,
-        LATENCY_LIMIT,
-        VERSION,
-        &IDENTIFIER,
-    );
-    if provider.invoke(&BIND).is_err() || provider.invoke(&START).is_err() {
-        return None;
-    }
-    Some(provider)
+pub struct Receiver<F, T> {
+    provider: Provider<F, T>,
+    data: Vec<u8>,
+    out: Vec<u8>,
+    pub tally: Tally,
 }
 
 // Gives each frame other data at both ends, so that a frame in another's place changes the sum.
 fn mark(data: &mut [u8], number: u32) {
-    if data.len() > 0 {
-        let last = data.len() - 1;
-        data[last] = (number / 256 % 256) as u8;
-        data[0] = (number % 256) as u8;
+    if let Some(last) = data.last_mut() {
+        *last = (number / 256 % 256) as u8;
+    }
+    if let Some(first) = data.first_mut() {
+        *first = (number % 256) as u8;
     }
 }
 
-// A good frame comes, at a time of day 1.
-pub fn receive<F: Queue, T: Queue>(
-    provider: &mut Provider<F, T>,
-    data: &mut [u8],
-    number: u32,
-    tally: &mut Tally,
-) {
-    mark(data, number);
-    let answer = provider.acquire(0, 1, number % 86_400_000, number % 1000, data);
-    tally.acquired(answer.is_ok());
-}
-
-fn collect<F: Queue, T: Queue>(
-    provider: &mut Provider<F, T>,
-    out: &mut [u8],
-    tally: &mut Tally,
-    depth: Depth,
-) {
-    if let Ok(length) = provider.collect(out) {
-        tally.collected(out, length, depth);
-    }
-}
-
-// A batch of rounds: a frame comes, a record moves on, and what is sent is collected; now and then comes a tick.
-pub fn serve<F: Queue, T: Queue>(
-    provider: &mut Provider<F, T>,
-    desk: &mut Desk,
-    rounds: u32,
-    tally: &mut Tally,
-    depth: Depth,
-) {
-    for number in 0..rounds {
-        receive(provider, desk.data, number, tally);
-        if let MoveAnswer::Sent = provider.move_record() {
-            collect(provider, desk.out, tally, depth);
-            let _ = provider.move_record();
+impl<F: Queue + Drop, T: Queue + Drop> Receiver<F, T> {
+    // Opens a provider over two queues and begins a run, unless something is refused.
+    pub fn begin(
+        heap: Global,
+        frames: F,
+        transport: T,
+        load: &Load,
+    ) -> Result<Option<Receiver<F, T>>, AllocError> {
+        let mut provider = Provider::open(
+            frames,
+            transport,
+            Opening {
+                buffer_size: load.buffer_size,
+                latency_limit: LATENCY_LIMIT,
+                version: VERSION,
+                identifier: &IDENTIFIER,
+            },
+        );
+        if provider.invoke(&BIND).is_err() || provider.invoke(&START).is_err() {
+            return Ok(None);
         }
-        if number % TICK_ROUNDS == 0 {
-            if let TickAnswer::Sent = provider.tick() {
-                collect(provider, desk.out, tally, depth);
+        Ok(Some(Receiver {
+            provider,
+            data: vec![in heap; 7; load.length]?,
+            out: vec![in heap; 0; load.longest_pdu()]?,
+            tally: Tally::default(),
+        }))
+    }
+
+    // A good frame comes, at a time of day 1.
+    pub fn receive(&mut self, number: u32) {
+        mark(&mut self.data, number);
+        let time = TimeNumbers {
+            day: 1,
+            millisecond: number % 86_400_000,
+            microsecond: number % 1000,
+        };
+        let Receiver {
+            provider,
+            data,
+            tally,
+            ..
+        } = self;
+        tally.acquired(provider.acquire(0, time, data).is_ok());
+    }
+
+    fn collect<E: Fn(&mut Tally, &[u8])>(&mut self, enter: &E)
+        requires { E.IsAlwaysCallable enter.now }
+    {
+        let Receiver {
+            provider,
+            out,
+            tally,
+            ..
+        } = self;
+        if let Ok(length) = provider.collect(out) {
+            if let Some(pdu) = out.get(..length) {
+                enter(tally, pdu);
+            }
+        }
+    }
+
+    // A batch of rounds: a frame comes, a record moves on, and what is sent is collected and entered; now and then comes
+    // a tick.
+    pub(crate) fn serve<E: Fn(&mut Tally, &[u8])>(&mut self, rounds: u32, enter: E)
+        requires { E.IsAlwaysCallable enter }
+    {
+        for number in 0..rounds {
+            self.receive(number);
+            if self.provider.move_record() == MoveAnswer::Sent {
+                self.collect(&enter);
+                let _ = self.provider.move_record();
+            }
+            if number % TICK_ROUNDS == 0 && self.provider.tick() == TickAnswer::Sent {
+                self.collect(&enter);
             }
         }
     }

@@ -9,51 +9,51 @@ use Rattle.dump.proofs.PduLines.{lines_end, lines_fault, lines_part}
 use Rattle.dump.proofs.records.say_pdu.Goals as goal
 
 -- a part that was handed out lies behind the cursor
-pub loop-next-smaller : goal.loop-next-smaller
-loop-next-smaller c =
+pub loop-part-smaller : goal.loop-part-smaller
+loop-part-smaller c =
     let xs = c.args.pdu.now in
-    let at = c.loop-next.reader.place in
-    let over : c.loop-next.reader.pdu.now ≡ xs = c.loop-next.invariant.0 in
-    let told : next_part xs at ≡ Ok (Some (part_of c.in-Some.part)) = sym (c.in-Ok.ensures.answer ∙ ap (λ z. next_part z at) over) ∙ ap (λ n. part_if_or (Ok n)) c.in-Some.is in
-    let step = count_some xs at 0 (part_of c.in-Some.part) told in
-    let cursor = c.in-Ok.ensures.cursor ∙ ap (λ z. next_cursor z at) over in
+    let at = c.loop-part.reader.place in
+    let over : c.loop-part.reader.pdu.now ≡ xs = c.loop-part.invariant.0 in
+    let told : next_part xs at ≡ Ok (Some (part_of c.in-Ok-Some.part)) = sym (c.in-Ok-Some.ensures.answer ∙ ap (λ z. next_part z at) over) ∙ ap (λ n. part_if_or (Ok n)) c.in-Ok-Some.field-0-is in
+    let step = count_some xs at 0 (part_of c.in-Ok-Some.part) told in
+    let cursor = c.in-Ok-Some.ensures.cursor ∙ ap (λ z. next_cursor z at) over in
     omega (arith, step.0, step.2, cursor)
 
-pub loop-next-preserved : goal.loop-next-preserved
-loop-next-preserved c =
+pub loop-part-preserved : goal.loop-part-preserved
+loop-part-preserved c =
     let xs = c.args.pdu.now in
-    let at = c.loop-next.reader.place in
-    let over : c.loop-next.reader.pdu.now ≡ xs = c.loop-next.invariant.0 in
-    let told : next_part xs at ≡ Ok (Some (part_of c.in-Some.part)) = sym (c.in-Ok.ensures.answer ∙ ap (λ z. next_part z at) over) ∙ ap (λ n. part_if_or (Ok n)) c.in-Some.is in
-    let cursor = c.in-Ok.ensures.cursor ∙ ap (λ z. next_cursor z at) over in
-    let step = lines_part xs at (length xs) (part_of c.in-Some.part) (octets_typed xs c.type_inv.pdu) (omega arith) told in
-    let line = part_line c.in-Some.part.place (content_or (record_at c.in-Some.part.octets.now 0)) in
+    let at = c.loop-part.reader.place in
+    let over : c.loop-part.reader.pdu.now ≡ xs = c.loop-part.invariant.0 in
+    let told : next_part xs at ≡ Ok (Some (part_of c.in-Ok-Some.part)) = sym (c.in-Ok-Some.ensures.answer ∙ ap (λ z. next_part z at) over) ∙ ap (λ n. part_if_or (Ok n)) c.in-Ok-Some.field-0-is in
+    let cursor = c.in-Ok-Some.ensures.cursor ∙ ap (λ z. next_cursor z at) over in
+    let step = lines_part xs at (length xs) (part_of c.in-Ok-Some.part) (octets_typed xs c.type_inv.pdu) (omega arith) told in
+    let line = part_line c.in-Ok-Some.part.place (content_or (record_at c.in-Ok-Some.part.octets.now 0)) in
     let rest = lines_from (length xs) xs in (
-      c.in-Ok.ensures.over ∙ over,
-      c.loop-next.invariant.1 ∙ ap (λ l. vec_items c.loop-next.out ++ l) step
-          ∙ sym (append_assoc (vec_items c.loop-next.out) line (rest (next_cursor xs at)))
-          ∙ (λ i. sym c.in_ok-say_record-in-Some.ensures i ++ rest (sym cursor i)),
+      c.in-Ok-Some.ensures.over ∙ over,
+      c.loop-part.invariant.1 ∙ ap (λ l. vec_items c.loop-part.out ++ l) step
+          ∙ sym (append_assoc (vec_items c.loop-part.out) line (rest (next_cursor xs at)))
+          ∙ (λ i. sym c.in_ok-say_record-in-Ok-Some.ensures i ++ rest (sym cursor i)),
     )
 
-pub loop-next-init : goal.loop-next-init
-loop-next-init c =
+pub loop-part-init : goal.loop-part-init
+loop-part-init c =
     let xs = c.args.pdu.now in
     (c.new-reader.ensures.over, ap (λ k. vec_items c.args.out.now ++ lines_from (length xs) xs k) (sym c.new-reader.ensures.start))
 
-pub returns-in-None : goal.returns-in-None
-returns-in-None c =
+pub returns-in-Ok-None : goal.returns-in-Ok-None
+returns-in-Ok-None c =
     let xs = c.args.pdu.now in
-    let at = c.loop-next.reader.place in
-    let over : c.loop-next.reader.pdu.now ≡ xs = c.loop-next.invariant.0 in
-    let told : next_part xs at ≡ Ok None = sym (c.in-Ok.ensures.answer ∙ ap (λ z. next_part z at) over) ∙ ap (λ n. part_if_or (Ok n)) c.in-None.is in
-    let lines = c.loop-next.invariant.1 ∙ ap (λ l. vec_items c.loop-next.out ++ l) (lines_end xs at (length xs) told) in
+    let at = c.loop-part.reader.place in
+    let over : c.loop-part.reader.pdu.now ≡ xs = c.loop-part.invariant.0 in
+    let told : next_part xs at ≡ Ok None = sym (c.in-Ok-None.ensures.answer ∙ ap (λ z. next_part z at) over) ∙ ap (λ n. part_if_or (Ok n)) c.in-Ok-None.field-0-is in
+    let lines = c.loop-part.invariant.1 ∙ ap (λ l. vec_items c.loop-part.out ++ l) (lines_end xs at (length xs) told) in
     IfOk-weaker c.say.result _ _ (λ u h. h ∙ sym lines) c.say.ensures
 
 pub returns-in-Err : goal.returns-in-Err
 returns-in-Err c =
     let xs = c.args.pdu.now in
-    let at = c.loop-next.reader.place in
-    let over : c.loop-next.reader.pdu.now ≡ xs = c.loop-next.invariant.0 in
+    let at = c.loop-part.reader.place in
+    let over : c.loop-part.reader.pdu.now ≡ xs = c.loop-part.invariant.0 in
     let told : next_part xs at ≡ Err c.in-Err.fault = sym (c.in-Err.ensures.answer ∙ ap (λ z. next_part z at) over) in
-    let lines = c.loop-next.invariant.1 ∙ ap (λ l. vec_items c.loop-next.out ++ l) (lines_fault xs at (length xs) c.in-Err.fault (omega arith) told) in
-    IfOk-weaker c.say_fault.result _ _ (λ u h. h ∙ sym lines) c.say_fault.ensures
+    let lines = c.loop-part.invariant.1 ∙ ap (λ l. vec_items c.loop-part.out ++ l) (lines_fault xs at (length xs) c.in-Err.fault (omega arith) told) in
+    IfOk-weaker c.say-in-Err.result _ _ (λ u h. h ∙ sym lines) c.say-in-Err.ensures
