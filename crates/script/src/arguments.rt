@@ -1,8 +1,8 @@
-ghost use Rattle.std.specs.Prelude.{◌≡◌, ℕ, ◌≤◌, ◌<◌, List, ◌++◌, OnOk, IfOk, Ok, Some, None, codes};
+ghost use Rattle.std.specs.Prelude.{◌≡◌, ℕ, ◌≤◌, ◌<◌, List, ◌++◌, OnOk, OnErr, IfOk, IsSome, Ok, Some, None, codes};
 ghost use Rattle.script.specs.Arguments.{octets_left, octets_said};
 ghost use Rattle.script.specs.Complaints.{unknown_text, IsComplaint};
 ghost use Rattle.script.specs.Numbers.{number_answer};
-ghost use Rattle.script.specs.Text.{first_word};
+ghost use Rattle.script.specs.Text.{first_word, after_word};
 
 use crate::complaint::Complaint;
 use crate::hexadecimal;
@@ -28,6 +28,8 @@ impl<'a> Arguments<'a> {
     pub fn word(&mut self, wanted: &str) -> Result<&'a [u8], Complaint>
         ensures shorter { OnOk result (octets_left self.new < octets_left self.old) }
         ensures read { IfOk result (λ w. first_word self.old.words.rest.now ≡ Some w.now) }
+        ensures missing { OnErr result (first_word self.old.words.rest.now ≡ None) }
+        ensures rest { self.new.words.rest.now ≡ after_word self.old.words.rest.now }
     {
         self.words
             .next()
@@ -39,6 +41,7 @@ impl<'a> Arguments<'a> {
         ensures shorter { OnOk result (octets_left self.new < octets_left self.old) }
         ensures within { IfOk result (λ n. (v : ℕ) × (v ≤ N.MOST) × N.try_from_gives v (Ok n)) }
         ensures said { IfOk result (λ n. (w : List ℕ) × (v : ℕ) × (first_word self.old.words.rest.now ≡ Some w) × (number_answer w N.MOST ≡ Ok v) × N.try_from_gives v (Ok n)) }
+        ensures rest { self.new.words.rest.now ≡ after_word self.old.words.rest.now }
     {
         let word = self.word(wanted)?;
         number(word, N::MOST)
@@ -77,6 +80,7 @@ impl<'a> Arguments<'a> {
     pub fn octets(&mut self, wanted: &str) -> Result<Vec<u8>, Complaint>
         ensures shorter { OnOk result (octets_left self.new < octets_left self.old) }
         ensures said { IfOk result (λ v. (w : List ℕ) × (first_word self.old.words.rest.now ≡ Some w) × (octets_said w ≡ Some v.items)) }
+        ensures rest { self.new.words.rest.now ≡ after_word self.old.words.rest.now }
     {
         let word = self.word(wanted)?;
         if let b"-" = word {
@@ -98,7 +102,8 @@ impl<'a> Arguments<'a> {
 
     // That no word is left.
     pub fn end(&mut self) -> Result<(), Complaint>
-        ensures { OnOk result (first_word self.old.words.rest.now ≡ None) }
+        ensures ok { OnOk result (first_word self.old.words.rest.now ≡ None) }
+        ensures left_over { OnErr result (IsSome (first_word self.old.words.rest.now)) }
     {
         if let Some(word) = self.words.next() {
             let text: Result<String, AllocError> = self.left_over_text(word);
