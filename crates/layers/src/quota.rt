@@ -3,7 +3,7 @@ ghost use Rattle.layers.specs.Layers.{quota_room};
 
 use queue::interface::Queue;
 use queue::meaning::Meaning;
-use queue::refusal::Refusal;
+use queue::refusal::{Refusal, admit};
 
 // A queue of which at most `limit` records are in use.
 #[derive(Drop)]
@@ -54,8 +54,11 @@ impl<Q: Queue> Queue for Quota<Q> {
         self.below.count() < self.limit && self.below.room_for(n)
     }
 
+    // The length and the count decide here; whether there is room below is asked below.
     fn add(&mut self, octets: &[u8]) -> Result<(), Refusal> {
-        self.admission(octets.len())?;
+        let most = self.below.largest();
+        let free = self.below.count() < self.limit;
+        admit(octets.len(), most, free)?;
         self.below.add(octets)
     }
 

@@ -6,7 +6,7 @@ ghost use Rattle.layers.specs.Rooms.{tandem_vacant, tandem_bounded};
 
 use queue::interface::Queue;
 use queue::meaning::Meaning;
-use queue::refusal::Refusal;
+use queue::refusal::{Refusal, admit};
 
 // Two queues in a row: what the near queue holds is older than what the far queue holds.
 #[derive(Drop)]
@@ -24,6 +24,17 @@ impl<N, F> Tandem<N, F> {
 }
 
 impl<N: Queue, F: Queue> Tandem<N, F> {
+    // The greater of the two largest lengths.
+    fn widest(&mut self) -> usize
+        ensures answer { result ≡ max (N.Meaning.largest self.old.near) (F.Meaning.largest self.old.far) }
+        ensures near { Kept N.Meaning self.old.near self.new.near }
+        ensures far { Kept F.Meaning self.old.far self.new.far }
+    {
+        let near = self.near.largest();
+        let far = self.far.largest();
+        near.max(far)
+    }
+
     // Whether a record of `n` octets goes to the near queue: only while the far queue is empty, since a record that
     // went to the near queue past older ones in the far queue would leave before them.
     fn goes_near(&mut self, n: usize) -> bool
@@ -61,20 +72,22 @@ impl<N: Queue, F: Queue> Queue for Tandem<N, F> {
     }
 
     fn largest(&mut self) -> usize {
-        let near = self.near.largest();
-        let far = self.far.largest();
-        near.max(far)
+        self.widest()
     }
 
     fn room_for(&mut self, n: usize) -> bool {
         self.goes_near(n) || self.far.room_for(n)
     }
 
+    // What goes near is admitted there; only what goes far is admitted here.
     fn add(&mut self, octets: &[u8]) -> Result<(), Refusal> {
-        self.admission(octets.len())?;
-        if self.goes_near(octets.len()) {
+        let n = octets.len();
+        if self.goes_near(n) {
             return self.near.add(octets);
         }
+        let most = self.widest();
+        let free = self.far.room_for(n);
+        admit(n, most, free)?;
         self.far.add(octets)
     }
 
