@@ -115,17 +115,26 @@ impl fmt::Display for AnswerLine<'_> {
     }
 }
 
+// The line of the opening, by its number.
+pub fn say_opening_number(out: &mut Vec<u8>, number: u8) -> Result<(), AllocError>
+    ensures { OnOk result (out.new.items ≡ out.old.items ++ opening_line number) }
+{
+    if number == 0 {
+        say(out, "opened\n")
+    } else {
+        say(out, format_args!("refused {number}\n"))
+    }
+}
+
 // The line of the opening.
 pub fn say_opening(out: &mut Vec<u8>, opening: Result<(), OpeningRefusal>) -> Result<(), AllocError>
     ensures { OnOk result (out.new.items ≡ out.old.items ++ opening_line (opening_answer opening)) }
 {
-    match opening {
-        Ok(()) => say(out, "opened\n"),
-        Err(refusal) => {
-            let number = refusal.number();
-            say(out, format_args!("refused {number}\n"))
-        }
-    }
+    let number = match opening {
+        Ok(()) => 0,
+        Err(refusal) => refusal.number(),
+    };
+    say_opening_number(out, number)
 }
 
 // The line of an answer.

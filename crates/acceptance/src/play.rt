@@ -5,8 +5,7 @@ use crate::account::say_account;
 use crate::answer::{say_answer, say_opening};
 use crate::opening::ScriptOpening;
 use crate::reading::{Script, read_calls, read_opening};
-use piles::memory::{BottomMemory, Sizes};
-use piles::pair::Pair;
+use piles::memory::{PileMemory, Sizes};
 use provider::answer::OpeningRefusal;
 use replay::account::Account;
 use replay::answer::Answer;
@@ -41,8 +40,8 @@ fn lend<'a>(heap: Global, calls: &'a [Call<Vec<u8>>]) -> Result<Vec<Call<&'a [u8
 // The memory of the two piles.
 #[derive(Drop)]
 struct Piles {
-    frames: Pair<Pair<BottomMemory>>,
-    transport: Pair<Pair<BottomMemory>>,
+    frames: PileMemory,
+    transport: PileMemory,
 }
 
 impl Piles {

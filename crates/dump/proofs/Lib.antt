@@ -1,1 +1,2 @@
 pub mod PduLines
+pub mod Letters

@@ -6,11 +6,11 @@ use Rattle.std.proofs.lemmas.Bool.{le-leb, lt-leb}
 use Rattle.script.specs.declared.number.NumberFault.TheVariants.{TooLarge}
 use Rattle.script.specs.Numbers.{decimal, number_answer}
 
-decimal_grows : (v : ℕ) (os : List ℕ) → v ≤ decimal v os
+pub decimal_grows : (v : ℕ) (os : List ℕ) → v ≤ decimal v os
 decimal_grows v [] = omega arith
 decimal_grows v (o ∷ os) = let more = decimal_grows (v * 10 + (o - 48)) os in omega arith
 
-decimal_on : (v : ℕ) (os : List ℕ) (i : ℕ) → i < length os → decimal v (drop i os) ≡ decimal (v * 10 + (get_or os i 0 - 48)) (drop (i + 1) os)
+pub decimal_on : (v : ℕ) (os : List ℕ) (i : ℕ) → i < length os → decimal v (drop i os) ≡ decimal (v * 10 + (get_or os i 0 - 48)) (drop (i + 1) os)
 decimal_on v os i h = rw (drop-cons os i 0 h, add-one)
 
 pub decimal_least : (v : ℕ) (os : List ℕ) (i total : ℕ) → i < length os → decimal v (drop i os) ≡ total → v * 10 + (get_or os i 0 - 48) ≤ total

@@ -1,11 +1,7 @@
 -- Octets written by hexadecimal digits, octet by octet.
-use Rattle.std.proofs.Common.{◌≡◌, ℕ, ◌+◌, ◌-◌, ◌*◌, ◌/◌, ◌%◌, ◌<◌, ◌≤◌, cond, false, nat_lt, List, [], ◌∷◌, ◌++◌, length, get_or, take, drop, Some, None, Option, sym, refl, ap, ◌∙◌, inl, inr, append_assoc, arith}
-use Rattle.std.proofs.lemmas.List.{take_more}
-use Rattle.std.proofs.lemmas.Fmt.{hex_byte}
-use Rattle.std.specs.Fmt.{digit_glyph, padded_integral, format_spec}
-use Rattle.std.specs.Fmt.{digits}
+use Rattle.std.proofs.Common.{◌≡◌, ℕ, suc, ◌+◌, ◌-◌, ◌*◌, ◌/◌, ◌%◌, ◌<◌, ◌≤◌, List, [], ◌∷◌, ◌++◌, length, get_or, drop, Some, None, Option, sym, refl, ap, ◌∙◌, inl, inr, append_assoc, append-nil, arith}
 use Rattle.std.proofs.lemmas.Bool.{cases_lt, lt-ltb, le-ltb, le-leb, lt-leb}
-use Rattle.script.specs.Hexadecimal.{digit_value, in_front, octets_of_digits, digit_of, digits_of_octets, OctetsReadBack}
+use Rattle.script.specs.Hexadecimal.{digit_value, in_front, octets_of_digits, digit_of, digits_of_octets, hexadecimal_text, OctetsReadBack}
 
 -- octets read so far, and then those of the rest
 abbrev pub onto : List ℕ → Option (List ℕ) → Option (List ℕ)
@@ -22,6 +18,19 @@ pub octet_on : (ds xs : List ℕ) (high low : ℕ) → 2 ≤ length ds → Some 
 octet_on [] xs high low h a b = absurd (omega arith)
 octet_on (d ∷ []) xs high low h a b = absurd (omega arith)
 octet_on (d ∷ (e ∷ ds)) xs high low h a b = rw (← a, ← b) (sym (onto_front xs high low (octets_of_digits ds)))
+
+front_none : (a b : Option ℕ) → in_front a b None ≡ None
+front_none (Some a) (Some b) = refl
+front_none (Some a) None = refl
+front_none None b = refl
+
+odd_more : (n : ℕ) → suc (suc n) % 2 ≡ n % 2
+odd_more n = omega arith
+
+pub odd_none : (ds : List ℕ) → (length ds % 2 ≡ 0 → ⊥) → octets_of_digits ds ≡ None
+odd_none [] ne = absurd (ne refl)
+odd_none (a ∷ []) ne = refl
+odd_none (a ∷ (b ∷ ds)) ne = ap (in_front (digit_value a) (digit_value b)) (odd_none ds (λ e. ne (odd_more (length ds) ∙ e))) ∙ front_none (digit_value a) (digit_value b)
 
 digit_back : (n : ℕ) → n < 16 → digit_value (digit_of n) ≡ Some n
 digit_back n h =
@@ -42,17 +51,33 @@ octets_back (o ∷ os) a =
     let sum : o / 16 * 16 + o % 16 ≡ o = omega arith in
     rw (high, low, rest) (ap (λ q. Some (q ∷ os)) sum)
 
-digits_append : (xs ys : List ℕ) → digits_of_octets (xs ++ ys) ≡ digits_of_octets xs ++ digits_of_octets ys
-digits_append [] ys = refl
-digits_append (x ∷ xs) ys = ap (λ q. digit_of (x / 16) ∷ (digit_of (x % 16) ∷ q)) (digits_append xs ys)
+-- the digits of the octets in front, and then those of the rest
+pub one_on : (os text : List ℕ) → 1 ≤ length os → text ≡ digits_of_octets (get_or os 0 0 ∷ []) → text ++ digits_of_octets (drop 1 os) ≡ digits_of_octets os
+one_on [] text h e = absurd (omega arith)
+one_on (a ∷ os) text h e = ap (λ q. q ++ digits_of_octets os) e
 
-glyph : (n : ℕ) → digit_glyph false n ≡ digit_of n
-glyph n = let a : 48 + n ≡ n + 48 = omega arith in let b : 87 + n ≡ n + 87 = omega arith in λ i. cond (nat_lt n 10) (a i) (b i)
+pub eight_on : (os text : List ℕ) → 8 ≤ length os → text ≡ digits_of_octets (get_or os 0 0 ∷ (get_or os 1 0 ∷ (get_or os 2 0 ∷ (get_or os 3 0 ∷ (get_or os 4 0 ∷ (get_or os 5 0 ∷ (get_or os 6 0 ∷ (get_or os 7 0 ∷ []))))))))
+    → text ++ digits_of_octets (drop 8 os) ≡ digits_of_octets os
+eight_on [] text p q = absurd (omega arith)
+eight_on (a ∷ []) text p q = absurd (omega arith)
+eight_on (a ∷ (b ∷ [])) text p q = absurd (omega arith)
+eight_on (a ∷ (b ∷ (c ∷ []))) text p q = absurd (omega arith)
+eight_on (a ∷ (b ∷ (c ∷ (d ∷ [])))) text p q = absurd (omega arith)
+eight_on (a ∷ (b ∷ (c ∷ (d ∷ (e ∷ []))))) text p q = absurd (omega arith)
+eight_on (a ∷ (b ∷ (c ∷ (d ∷ (e ∷ (f ∷ [])))))) text p q = absurd (omega arith)
+eight_on (a ∷ (b ∷ (c ∷ (d ∷ (e ∷ (f ∷ (g ∷ []))))))) text p q = absurd (omega arith)
+eight_on (a ∷ (b ∷ (c ∷ (d ∷ (e ∷ (f ∷ (g ∷ (h ∷ os)))))))) text p q = ap (λ ds. ds ++ digits_of_octets os) q
 
--- the digits printed so far, and those of one octet more
-pub digits_more : (os : List ℕ) (i : ℕ) → i < length os → get_or os i 0 < 256
-    → digits_of_octets (take i os) ++ padded_integral (format_spec 32 0 4 2 18446744073709551615) false [] (digits 16 false (get_or os i 0)) ≡ digits_of_octets (take (i + 1) os)
-digits_more os i h fits =
-    let o = get_or os i 0 in
-    ap (λ q. digits_of_octets (take i os) ++ q) (hex_byte false o fits ∙ (λ j. glyph (o / 16) j ∷ (glyph (o % 16) j ∷ [])))
-    ∙ sym (digits_append (take i os) (o ∷ [])) ∙ ap digits_of_octets (sym (take_more os i 0 h))
+-- what has been printed, a text more, and what is left
+pub printed_on : (written text rest left all : List ℕ) → written ++ digits_of_octets rest ≡ all → text ++ digits_of_octets left ≡ digits_of_octets rest → (written ++ text) ++ digits_of_octets left ≡ all
+printed_on written text rest left all e on = append_assoc written text (digits_of_octets left) ∙ ap (λ q. written ++ q) on ∙ e
+
+pub text_is : (os : List ℕ) → 0 < length os → hexadecimal_text os ≡ digits_of_octets os
+text_is [] h = absurd (omega arith)
+text_is (o ∷ os) h = refl
+
+-- what two loops have printed, of which the second left nothing
+pub printed_all : (first second rest left all : List ℕ) → length left < 1 → 0 < length all → second ++ digits_of_octets left ≡ digits_of_octets rest → first ++ digits_of_octets rest ≡ digits_of_octets all
+    → first ++ second ≡ hexadecimal_text all
+printed_all first second rest [] all h some e on = ap (λ q. first ++ q) (sym (append-nil second) ∙ e) ∙ on ∙ sym (text_is all some)
+printed_all first second rest (x ∷ left) all h some e on = absurd (omega arith)

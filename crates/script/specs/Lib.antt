@@ -1,4 +1,5 @@
 pub mod Text
+pub mod Runs
 pub mod Lines
 pub mod Numbers
 pub mod Hexadecimal

@@ -1,6 +1,6 @@
-ghost use Rattle.std.specs.Prelude.{◌≡◌, ℕ, ◌≤◌, ◌<◌, List, ◌++◌, OnOk, OnErr, IfOk, IsSome, Ok, Some, None, codes};
+ghost use Rattle.std.specs.Prelude.{◌≡◌, ℕ, ◌≤◌, ◌<◌, List, ◌++◌, OnOk, OnErr, IfOk, IfErr, IsSome, Ok, Some, None, codes};
 ghost use Rattle.script.specs.Arguments.{octets_left, octets_said};
-ghost use Rattle.script.specs.Complaints.{unknown_text, IsComplaint};
+ghost use Rattle.script.specs.Complaints.{missing_text, unknown_text, IsComplaint};
 ghost use Rattle.script.specs.Numbers.{number_answer};
 ghost use Rattle.script.specs.Text.{first_word, after_word};
 
@@ -29,6 +29,7 @@ impl<'a> Arguments<'a> {
         ensures shorter { OnOk result (octets_left self.new < octets_left self.old) }
         ensures read { IfOk result (λ w. first_word self.old.words.rest.now ≡ Some w.now) }
         ensures missing { OnErr result (first_word self.old.words.rest.now ≡ None) }
+        ensures told { IfErr result (λ c. IsComplaint c (missing_text wanted.now)) }
         ensures rest { self.new.words.rest.now ≡ after_word self.old.words.rest.now }
     {
         self.words
@@ -36,25 +37,37 @@ impl<'a> Arguments<'a> {
             .ok_or_else(|| Complaint::missing(self.heap, wanted))
     }
 
-    // The next word as a number.
+    // The next word as a number of at most `most`.
+    pub fn number_to(&mut self, wanted: &str, most: u64) -> Result<u64, Complaint>
+        ensures shorter { OnOk result (octets_left self.new < octets_left self.old) }
+        ensures within { IfOk result (λ v. v ≤ most) }
+        ensures said { IfOk result (λ v. (w : List ℕ) × (first_word self.old.words.rest.now ≡ Some w) × (number_answer w most ≡ Ok v)) }
+        ensures rest { self.new.words.rest.now ≡ after_word self.old.words.rest.now }
+    {
+        let word = self.word(wanted)?;
+        number(word, most).map_err(|fault| {
+            let text: Result<String, AllocError> = self.number_text(wanted, word, most, fault);
+            Complaint::from(text)
+        })
+    }
+
+    // The next word as a number of a type.
     pub fn number<N: NumberType>(&mut self, wanted: &str) -> Result<N, Complaint>
         ensures shorter { OnOk result (octets_left self.new < octets_left self.old) }
         ensures within { IfOk result (λ n. (v : ℕ) × (v ≤ N.MOST) × N.try_from_gives v (Ok n)) }
         ensures said { IfOk result (λ n. (w : List ℕ) × (v : ℕ) × (first_word self.old.words.rest.now ≡ Some w) × (number_answer w N.MOST ≡ Ok v) × N.try_from_gives v (Ok n)) }
         ensures rest { self.new.words.rest.now ≡ after_word self.old.words.rest.now }
     {
-        let word = self.word(wanted)?;
-        number(word, N::MOST)
-            .and_then(|value| N::try_from(value).map_err(|_| NumberFault::TooLarge))
-            .map_err(|fault| {
-                let text: Result<String, AllocError> = self.number_text(
-                    wanted,
-                    word,
-                    N::MOST,
-                    fault,
-                );
-                Complaint::from(text)
-            })
+        let value = self.number_to(wanted, N::MOST)?;
+        N::try_from(value).map_err(|_| {
+            let text: Result<String, AllocError> = self.past_text(wanted, value, N::MOST);
+            Complaint::from(text)
+        })
+    }
+
+    // That a number is past the largest of its type, which no number is that was taken as one of at most that.
+    fn past_text(&self, wanted: &str, value: u64, most: u64) -> Result<String, AllocError> {
+        format!(in self.heap; "{wanted} is {value}, but at most {most} is taken")
     }
 
     // That a word is not a number that is taken.

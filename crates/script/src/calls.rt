@@ -1,4 +1,4 @@
-ghost use Rattle.std.specs.Prelude.{length, IfSome, IsTrue, ◌≡◌};
+ghost use Rattle.std.specs.Prelude.{length, IfSome, IsTrue, ◌≡◌, ◌<◌};
 ghost use Rattle.std.specs.Iterator.{at_most};
 ghost use Rattle.script.specs.Text.{begins_call};
 
@@ -32,6 +32,16 @@ impl<'a> CallLine<'a> {
     }
 }
 
+impl<'a> Lines<'a> {
+    // The next line that says a call, or none at the end of the text.
+    pub fn next_call(&mut self, heap: Global) -> Option<CallLine<'a>>
+        ensures begins { IfSome result (λ l. IsTrue (begins_call l.word.now)) }
+        ensures shorter { IfSome result (λ _. length self.new.rest.now < length self.old.rest.now) }
+    {
+        self.find_map(|line| CallLine::of(line, heap))
+    }
+}
+
 // The lines of a script that say a call, from the first on.
 #[derive(Drop)]
 pub struct CallLines<'a> {
@@ -59,6 +69,6 @@ impl<'a> Iterator for CallLines<'a> {
 
     fn next(&mut self) -> Option<CallLine<'a>> {
         let heap = self.heap;
-        self.lines.find_map(|line| CallLine::of(line, heap))
+        self.lines.next_call(heap)
     }
 }

@@ -1,4 +1,4 @@
-ghost use Rattle.std.specs.Prelude.{◌≡◌, ◌<◌, ◌++◌, IfSome, IfOk, Some, None, MatchOption, OnOk};
+ghost use Rattle.std.specs.Prelude.{◌≡◌, ◌<◌, [], ◌∷◌, IfSome, IfOk, Some, None, MatchOption};
 ghost use Rattle.script.specs.Hexadecimal.{digit_value, octets_of_digits, digit_of, hexadecimal_text, OctetsReadBack};
 
 use std::alloc::{AllocError, Global};
@@ -21,17 +21,31 @@ fn digit_value(octet: u8) -> Option<u8>
 pub fn octets(heap: Global, word: &[u8]) -> Result<Option<Vec<u8>>, AllocError>
     ensures { IfOk result (λ o. MatchOption o (octets_of_digits word.now ≡ None) (λ v. octets_of_digits word.now ≡ Some v.items)) }
 {
+    if word.len() % 2 != 0 {
+        return Ok(None);
+    }
     let mut octets = Vec::with_capacity(heap, word.len() / 2)?;
     let mut rest = word;
     // Two digits at a time; a loop, since the memory for an octet may run out.
     while let [high, low, behind @ ..] = rest {
-        let (Some(high), Some(low)) = (digit_value(*high), digit_value(*low)) else {
+        let Some(high) = digit_value(*high) else {
+            return Ok(None);
+        };
+        let Some(low) = digit_value(*low) else {
             return Ok(None);
         };
         octets.push(high * 16 + low)?;
         rest = behind;
     }
     Ok(rest.is_empty().then_some(octets))
+}
+
+// A digit in lower case.
+fn digit(n: u8) -> u8
+    requires { n < 16 }
+    ensures { result ≡ digit_of n }
+{
+    if n < 10 { n + b'0' } else { n - 10 + b'a' }
 }
 
 // Octets printed by two digits each, in lower case; no octets as a dash.
@@ -45,8 +59,34 @@ impl fmt::Display for Hexadecimal<'_> {
         if self.0.is_empty() {
             return write!(f, "-");
         }
-        for &octet in self.0 {
-            write!(f, "{octet:02x}")?;
+        let mut rest = self.0;
+        // Eight octets at a time, since each text that is written has its price.
+        while let [a, b, c, d, e, g, h, i, behind @ ..] = rest {
+            let digits = [
+                digit(*a / 16),
+                digit(*a % 16),
+                digit(*b / 16),
+                digit(*b % 16),
+                digit(*c / 16),
+                digit(*c % 16),
+                digit(*d / 16),
+                digit(*d % 16),
+                digit(*e / 16),
+                digit(*e % 16),
+                digit(*g / 16),
+                digit(*g % 16),
+                digit(*h / 16),
+                digit(*h % 16),
+                digit(*i / 16),
+                digit(*i % 16),
+            ];
+            f.write_str(str::from_utf8(&digits).map_err(|_| fmt::Error)?)?;
+            rest = behind;
+        }
+        while let [octet, behind @ ..] = rest {
+            let digits = [digit(*octet / 16), digit(*octet % 16)];
+            f.write_str(str::from_utf8(&digits).map_err(|_| fmt::Error)?)?;
+            rest = behind;
         }
         Ok(())
     }

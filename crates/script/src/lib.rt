@@ -9,4 +9,5 @@ pub mod lines;
 pub mod number;
 pub mod output;
 pub mod played;
+pub mod run;
 pub mod words;

@@ -3,11 +3,11 @@ ghost use Rattle.std.specs.Fmt.{AppendsText};
 
 use std::alloc::AllocError;
 use std::fmt::Display;
+use std::io::Write;
 
 // Puts what a value prints behind an answer.
 pub fn say<D: Display + Drop>(out: &mut Vec<u8>, what: D) -> Result<(), AllocError>
     ensures { OnOk result (AppendsText out.old.items out.new.items (D.output what)) }
 {
-    let text = what.to_string(*out.allocator())?;
-    out.extend_from_slice(text.as_bytes())
+    out.write_fmt(what).map_err(|_| AllocError)
 }
