@@ -15,6 +15,10 @@ pub struct BottomMemory {
     pub packed_octets: Vec<u8>,
 }
 
+pub type HalfMemory = Pair<BottomMemory>;
+
+pub type PileMemory = Pair<HalfMemory>;
+
 // What the sizes of queues ask for in memory.
 pub trait Sizes {
     type Memory;

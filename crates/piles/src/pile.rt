@@ -1,7 +1,6 @@
 ghost use Rattle.piles.specs.Piles.{IsBottomOver, IsHalfOver, IsPileOver};
 
-use crate::memory::BottomMemory;
-use crate::pair::Pair;
+use crate::memory::{BottomMemory, HalfMemory, PileMemory};
 use layers::quota::Quota;
 use layers::tandem::Tandem;
 use packed::packed::Packed;
@@ -32,7 +31,7 @@ impl BottomMemory {
 
 // A pair's queue is written for each of the two kinds of pairs: what a trait's method lends has a type with a lifetime, and
 // an associated type can have none.
-impl Pair<BottomMemory> {
+impl HalfMemory {
     // The two queues over this memory, in tandem.
     pub fn queue(&mut self) -> Half<'_>
         ensures { IsHalfOver self.old result }
@@ -43,7 +42,7 @@ impl Pair<BottomMemory> {
     }
 }
 
-impl Pair<Pair<BottomMemory>> {
+impl PileMemory {
     // The pile over this memory.
     pub fn queue(&mut self) -> Pile<'_>
         ensures { IsPileOver self.old result }

@@ -16,8 +16,11 @@ pub struct BottomShape {
     pub packed_octets: usize,
 }
 
-// A tandem of two halves, each a tandem of two bottoms.
-pub type PileShape = Pair<Pair<BottomShape>>;
+// A tandem of two bottoms, of which the far one is hollow where the script names only one.
+pub type HalfShape = Pair<BottomShape>;
+
+// A tandem of two halves, of which the far one is hollow where the script names only one.
+pub type PileShape = Pair<HalfShape>;
 
 // What a queue's words begin with: quotas, of which the least counts, and then a bottom or a tandem.
 enum Head {

@@ -30,17 +30,19 @@ fn play(rt: &HostRuntime, rounds: u32, lengths: &[usize]) -> io::Result<()> {
     Ok(())
 }
 
-// The arguments are the rounds in a batch, and then lengths. Lengths come from memory, so that the compiler makes one
+// The arguments are the rounds in a batch, and then lengths; the name that the program was started by, where that is a
+// number, is the first length. Lengths come from memory, so that the compiler makes one
 // code for all of them, as it has to for records from outside.
 fn main(rt: HostRuntime) -> io::Result<()> {
     limits::show(&rt)?;
-    let mut arguments = env::args(&rt)?.skip(1);
-    let rounds = arguments
-        .next()
+    let rounds = env::args(&rt)?
+        .nth(1)
         .and_then(|text| text.parse().ok())
         .unwrap_or(ROUNDS);
-    let mut lengths: Vec<usize> = arguments
-        .filter_map(|text| text.parse::<u32>().ok())
+    let mut lengths: Vec<usize> = env::args(&rt)?
+        .enumerate()
+        .filter(|(place, _)| *place != 1)
+        .filter_map(|(_, text)| text.parse::<u32>().ok())
         .map(|length| length as usize)
         .collect(rt.alloc())?;
     if lengths.is_empty() {
